@@ -1,0 +1,5 @@
+pub mod OneRun
+pub mod General
+pub mod Reorder
+pub mod Tables
+pub mod Trials

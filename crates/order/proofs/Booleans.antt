@@ -1,0 +1,69 @@
+-- Small laws of Booleans and tests that every layer uses.
+use Prim.Native.Nat.{ℕ, _≤_, _<_}
+use native.Mathlib.Omega.{arith}
+use native.Mathlib.Decide.{decLt}
+use mathlib.Core.Path.{_≡_, refl, sym, subst, _∙_}
+use mathlib.Core.Logic.{_↔_}
+use mathlib.Core.Bool.{Bool, true, false, not, _&&_, _||_}
+use lib.Dec.{T, ltb, leb}
+use borrow.Author.Tests.{lt-ltb, le-ltb, le-leb, lt-leb}
+
+-- two tests that hold together are one
+pub same-test : (b c : Bool) → (T b → T c) → (T c → T b) → b ≡ c
+same-test true true f g = refl
+same-test true false f g = absurd (f tt)
+same-test false true f g = absurd (g tt)
+same-test false false f g = refl
+
+pub T-true : (b : Bool) → T b → b ≡ true
+T-true true t = refl
+T-true false t = absurd t
+
+pub T-false : (b : Bool) → (T b → ⊥) → b ≡ false
+T-false true f = absurd (f tt)
+T-false false f = refl
+
+pub true-T : (b : Bool) → b ≡ true → T b
+true-T b e = subst (λ (c : Bool). T c) (sym e) tt
+
+pub and-left : (a b : Bool) → T (a && b) → T a
+and-left true b t = tt
+and-left false b t = absurd t
+
+pub and-right : (a b : Bool) → T (a && b) → T b
+and-right true b t = t
+and-right false b t = absurd t
+
+pub and-both : (a b : Bool) → T a → T b → T (a && b)
+and-both true b s t = t
+and-both false b s t = absurd s
+
+pub or-left : (a b : Bool) → T a → T (a || b)
+or-left true b t = tt
+or-left false b t = absurd t
+
+pub or-right : (a b : Bool) → T b → T (a || b)
+or-right true b t = tt
+or-right false b t = t
+
+-- from "not below" to "at most", and from "not at most" to "below"
+pub not-below : (a b : ℕ) → (a < b → ⊥) → b ≤ a
+not-below a b f = omega (arith, f)
+
+pub not-within : (a b : ℕ) → (a ≤ b → ⊥) → b < a
+not-within a b f = omega (arith, f)
+
+-- tests of one truth are equal
+pub iff-ltb : (a b x y : ℕ) → (a < b) ↔ (x < y) → ltb a b ≡ ltb x y
+iff-ltb a b x y h = go (decLt a b)
+  where
+    go : Dec (a < b) → ltb a b ≡ ltb x y
+    go (yes g) = lt-ltb a b g ∙ sym (lt-ltb x y (h .0 g))
+    go (no g) = le-ltb a b (omega (arith, g)) ∙ sym (le-ltb x y (not-below x y (λ q. g (h .1 q))))
+
+pub leb-not : (a b : ℕ) → leb a b ≡ not (ltb b a)
+leb-not a b = go (decLt b a)
+  where
+    go : Dec (b < a) → leb a b ≡ not (ltb b a)
+    go (yes g) = rw (lt-leb a b g, lt-ltb b a g)
+    go (no g) = rw (le-leb a b (omega (arith, g)), le-ltb b a (omega (arith, g)))

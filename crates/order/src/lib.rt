@@ -1,0 +1,1 @@
+// The order of f64 values. The definitions are in specs/, their laws in proofs/.

@@ -1,0 +1,1 @@
+// Selection by rank among f64 values. The definitions are in specs/, their laws in proofs/.

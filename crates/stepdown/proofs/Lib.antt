@@ -1,0 +1,11 @@
+pub mod Sets
+pub mod Critical
+pub mod Masks
+pub mod Tabulate
+pub mod Rows
+pub mod Steps
+pub mod Accepted
+pub mod Begun
+pub mod Ending
+pub mod Falling
+pub mod Examples

@@ -1,0 +1,6 @@
+pub mod Tables
+pub mod Columns
+pub mod Method
+pub mod Runs
+pub mod Refusals
+pub mod Examples

@@ -1,0 +1,4 @@
+pub mod Sums
+pub mod Accepted
+pub mod Tables
+pub mod Examples

@@ -1,0 +1,102 @@
+-- Laws of signed sums: how large they are, that they are finite as f64, and what a second exchange does.
+use Prim.Native.Nat.{ℕ, zero, suc, _+_, _-_, _*_, _/_, _%_, _^_, _≤_, _<_}
+use native.Mathlib.Omega.{arith}
+use native.Mathlib.Nat.{mod-lt, suc-mul}
+use mathlib.Core.Path.{_≡_, refl, sym, ap, ap₂, _∙_, subst}
+use mathlib.Core.Bool.{Bool, true, false, not, cond, _&&_}
+use mathlib.Core.List.{List, [], _∷_}
+use lib.ListN.{length}
+use lib.Dec.{T, ltb, leb, eqb, le→leb, lt→ltb}
+use lib.Bits.{bitXor, differ, xor-shr, xor-mod}
+use lib.IntN.{ℤ, pos, negsuc, natAbs, negℤ, subℕ, _+ℤ_, negℤ-negℤ}
+use lib.Ieee.{Float, nan, inf, fin, binary64, ofInt, fits, inFloat}
+use lib.Ieee.Exact.{HasValue}
+use lib.Ieee.Back.{round-whole}
+use lib.Ieee.Fits.{ofInt-fits}
+use borrow.Author.Tests.{ltb-true, ltb-false}
+use Rattle.order.specs.Order.{finite}
+use Rattle.order.proofs.Booleans.{and-left, and-right}
+use Rattle.select.specs.Counting.{all}
+use Rattle.trial.specs.Exchange.{exchanged, signedSum}
+use Rattle.trial.specs.Refusals.{badDifference}
+
+-- ---- magnitudes
+
+abs-sub : (a b : ℕ) → natAbs (subℕ a b) ≤ a + b
+abs-sub a b = go (ltb a b) refl
+  where
+    go : (t : Bool) → ltb a b ≡ t → natAbs (cond t (negsuc (b - suc a)) (pos (a - b))) ≤ a + b
+    go true e = omega (arith, ltb-true a b e)
+    go false e = omega arith
+
+pub abs-add : (a b : ℤ) → natAbs (a +ℤ b) ≤ natAbs a + natAbs b
+abs-add (pos a) (pos b) = omega arith
+abs-add (pos a) (negsuc b) = abs-sub a (suc b)
+abs-add (negsuc a) (pos b) = omega (arith, abs-sub b (suc a))
+abs-add (negsuc a) (negsuc b) = omega arith
+
+pub abs-neg : (a : ℤ) → natAbs (negℤ a) ≡ natAbs a
+abs-neg (pos zero) = refl
+abs-neg (pos (suc n)) = refl
+abs-neg (negsuc n) = refl
+
+pub abs-exchanged : (b : Bool) (d : ℤ) → natAbs (exchanged b d) ≡ natAbs d
+abs-exchanged true d = abs-neg d
+abs-exchanged false d = refl
+
+abbrev pub InRange : List ℤ → Type 0
+InRange ds = T (all (λ d. not (badDifference d)) ds)
+
+in-range : (d : ℤ) → T (not (badDifference d)) → natAbs d ≤ 134217727
+unfolding badDifference
+in-range d t = lib.Dec.nltb→le 134217727 (natAbs d) t
+
+pub signedSum-small : (g : ℕ) (ds : List ℤ) → InRange ds → natAbs (signedSum g ds) ≤ length ds * 134217727
+unfolding signedSum all
+signedSum-small g [] h = omega arith
+signedSum-small g (d ∷ ds) h =
+    omega (arith, abs-add (exchanged (eqb (g % 2) 1) d) (signedSum (g / 2) ds), abs-exchanged (eqb (g % 2) 1) d,
+      in-range d (and-left (not (badDifference d)) (all (λ d. not (badDifference d)) ds) h), signedSum-small (g / 2) ds (and-right (not (badDifference d)) (all (λ d. not (badDifference d)) ds) h))
+
+-- ---- as an f64
+
+value-finite : (x : Float) (s : Bool) (n : ℕ) → T (fits binary64 x) → HasValue x s n 1 → T (finite x)
+unfolding finite
+value-finite nan s n t h = absurd h
+value-finite (inf r) s n t h = absurd h
+value-finite (fin r m e) s n t h = t
+
+pub whole-finite : (z : ℤ) → natAbs z ≤ 2 ^ 53 → T (finite (ofInt binary64 z))
+unfolding ofInt
+whole-finite (pos n) h = value-finite (ofInt binary64 (pos n)) false n (ofInt-fits binary64 (pos n)) (round-whole binary64 false n h)
+whole-finite (negsuc n) h = value-finite (ofInt binary64 (negsuc n)) true (suc n) (ofInt-fits binary64 (negsuc n)) (round-whole binary64 true (suc n) h)
+
+-- ---- exchanging twice
+
+-- the differences, each exchanged where its bit of g is 1
+unfoldable pub flipped : ℕ → List ℤ → List ℤ
+flipped g [] = []
+flipped g (d ∷ ds) = exchanged (eqb (g % 2) 1) d ∷ flipped (g / 2) ds
+
+pub flipped-length : (g : ℕ) (ds : List ℤ) → length (flipped g ds) ≡ length ds
+unfolding flipped
+flipped-length g [] = refl
+flipped-length g (d ∷ ds) = ap suc (flipped-length (g / 2) ds)
+
+digit-cases : (P : ℕ → Type 0) → P 0 → P 1 → (n : ℕ) → n < 2 → P n
+digit-cases P z o zero h = z
+digit-cases P z o (suc zero) h = o
+digit-cases P z o (suc (suc n)) h = absurd (omega arith)
+
+exchange-twice : (x y : ℕ) (d : ℤ) → x < 2 → y < 2 → exchanged (eqb x 1) (exchanged (eqb y 1) d) ≡ exchanged (eqb (bitXor x y) 1) d
+exchange-twice x y d h k =
+    digit-cases (λ (a : ℕ). exchanged (eqb a 1) (exchanged (eqb y 1) d) ≡ exchanged (eqb (bitXor a y) 1) d)
+    (digit-cases (λ (b : ℕ). exchanged (eqb 0 1) (exchanged (eqb b 1) d) ≡ exchanged (eqb (bitXor 0 b) 1) d) refl refl y k)
+    (digit-cases (λ (b : ℕ). exchanged (eqb 1 1) (exchanged (eqb b 1) d) ≡ exchanged (eqb (bitXor 1 b) 1) d) refl (negℤ-negℤ d) y k) x h
+
+pub signedSum-flipped : (h g : ℕ) (ds : List ℤ) → signedSum h (flipped g ds) ≡ signedSum (bitXor h g) ds
+unfolding signedSum flipped
+signedSum-flipped h g [] = refl
+signedSum-flipped h g (d ∷ ds) =
+    ap₂ _+ℤ_ (exchange-twice (h % 2) (g % 2) d (mod-lt h (omega arith)) (mod-lt g (omega arith)) ∙ ap (λ (n : ℕ). exchanged (eqb n 1) d) (sym (xor-mod h g 1)))
+    (signedSum-flipped (h / 2) (g / 2) ds ∙ ap (λ (n : ℕ). signedSum n ds) (sym (xor-shr h g 1)))

@@ -1,0 +1,117 @@
+-- Laws of a trial's table: its rows, and that the table of an accepted trial is accepted.
+use Prim.Native.Nat.{ℕ, zero, suc, _+_, _-_, _*_, _^_, _≤_, _<_}
+use native.Mathlib.Omega.{arith}
+use native.Mathlib.Nat.{suc-mul}
+use native.Mathlib.Decide.{decLe}
+use mathlib.Core.Path.{_≡_, refl, sym, ap, ap₂, _∙_, subst}
+use mathlib.Core.Bool.{Bool, true, false, not, _&&_}
+use mathlib.Core.List.{List, [], _∷_, _++_, map}
+use lib.ListN.{length, getD, take, drop, length-map, length-append, length-take, drop-of-length-le}
+use lib.Seq.{take-at, drop-at, take-take, take-add, take-nil, length-take-le}
+use lib.Dec.{T, eqb, leb, eqb-refl, eqb→eq, leb→le, le→leb}
+use lib.IntN.{ℤ, pos}
+use lib.Pow.{pow-pos}
+use lib.Ieee.{Float, nan, binary64, ofInt}
+use Rattle.order.specs.Order.{finite}
+use Rattle.order.proofs.Booleans.{and-both, and-left, and-right}
+use Rattle.select.specs.Counting.{all}
+use Rattle.select.proofs.Counts.{all-map, all-le, all-append, all-getD}
+use Rattle.stepdown.specs.Tables.{rowsOf}
+use Rattle.stepdown.specs.Runs.{tabulate}
+use Rattle.stepdown.proofs.Tabulate.{tabulate-length, tabulate-getD}
+use Rattle.stepdown.proofs.Rows.{all-take, all-drop, rowsOf-length}
+use Rattle.stepdown.proofs.Critical.{Sound, soundRow}
+use Rattle.trial.specs.Exchange.{signedSum, byOffer, rowTotal, rowOf, trialRows, joined, tableOf}
+use Rattle.trial.specs.Refusals.{badDifference}
+use Rattle.trial.specs.declared.Trial.{Trial}
+use Rattle.trial.proofs.Sums.{InRange, signedSum-small, whole-finite}
+use Rattle.trial.proofs.Accepted.{Accepted}
+
+-- ---- joining rows and taking them apart
+
+pub rowsOf-joined : {A : Type 0} (n : ℕ) (rs : List (List A)) → T (all (λ r. eqb (length r) n) rs) → rowsOf (length rs) n (joined rs) ≡ rs
+unfolding rowsOf joined all
+rowsOf-joined n [] h = refl
+rowsOf-joined n (r ∷ rs) h =
+    let l : length r ≡ n = eqb→eq (length r) n (and-left (eqb (length r) n) (all (λ r. eqb (length r) n) rs) h) in
+    ap₂ (λ (x : List _) (y : List (List _)). x ∷ y) (take-at r (joined rs) n l)
+    (ap (rowsOf (length rs) n) (drop-at r (joined rs) n l) ∙ rowsOf-joined n rs (and-right (eqb (length r) n) (all (λ r. eqb (length r) n) rs) h))
+
+pub all-tabulate : {A : Type 0} (p : A → Bool) (n : ℕ) (f : ℕ → A) → ((i : ℕ) → T (p (f i))) → T (all p (tabulate n f))
+unfolding tabulate all
+all-tabulate p zero f h = tt
+all-tabulate p (suc n) f h = and-both (p (f 0)) (all p (tabulate n (λ i. f (suc i)))) (h 0) (all-tabulate p n (λ i. f (suc i)) (λ i. h (suc i)))
+
+-- ---- differences, offer by offer
+
+drop-take : {A : Type 0} (n m : ℕ) (xs : List A) → drop n (take (n + m) xs) ≡ take m (drop n xs)
+drop-take n m xs = ap (drop n) (take-add n m xs) ∙ seam (decLe n (length xs))
+  where
+    seam : Dec (n ≤ length xs) → drop n (take n xs ++ take m (drop n xs)) ≡ take m (drop n xs)
+    seam (yes h) = drop-at (take n xs) (take m (drop n xs)) n (length-take-le n xs h)
+    seam (no h) = rw (drop-of-length-le xs {i = n} (omega (arith, h)), take-nil m) (drop-of-length-le (take n xs ++ []) {i = n} (simp (length-append, length-take) (omega (arith, h))))
+
+-- an offer's differences: at most n of them, all in range
+okOffer : ℕ → List ℤ → Bool
+okOffer n ds = leb (length ds) n && all (λ d. not (badDifference d)) ds
+
+offers-ok : (m n : ℕ) (xs : List ℤ) → InRange (take (m * n) xs) → T (all (okOffer n) (rowsOf m n xs))
+unfolding rowsOf all okOffer
+offers-ok zero n xs h = tt
+offers-ok (suc m) n xs h =
+    and-both (okOffer n (take n xs)) (all (okOffer n) (rowsOf m n (drop n xs)))
+    (and-both (leb (length (take n xs)) n) (all (λ d. not (badDifference d)) (take n xs)) (le→leb (length (take n xs)) n (simp length-take (omega arith)))
+      (subst (λ (l : List ℤ). InRange l) (take-take n (suc m * n) xs (omega (arith, suc-mul m n))) (all-take (λ d. not (badDifference d)) n (take (suc m * n) xs) h)))
+    (offers-ok m n (drop n xs) (subst (λ (l : List ℤ). InRange l) rest (all-drop (λ d. not (badDifference d)) n (take (suc m * n) xs) h)))
+  where
+    sum : suc m * n ≡ n + m * n
+    sum = omega (arith, suc-mul m n)
+
+    rest : drop n (take (suc m * n) xs) ≡ take (m * n) (drop n xs)
+    rest = ap (λ (i : ℕ). drop n (take i xs)) sum ∙ drop-take n (m * n) xs
+
+-- ---- the rows
+
+pub rowOf-length : (t : Trial) (g : ℕ) → length (rowOf t g) ≡ t .offers
+unfolding rowOf byOffer
+rowOf-length t g = length-map (byOffer t) (λ ds. ofInt binary64 (signedSum g ds)) ∙ rowsOf-length (t .offers) (t .pairs) (t .differences)
+
+sum-finite : (n g : ℕ) (ds : List ℤ) → n ≤ 9 → T (okOffer n ds) → T (finite (ofInt binary64 (signedSum g ds)))
+unfolding okOffer
+sum-finite n g ds h t =
+    whole-finite (signedSum g ds) (omega (arith, signedSum-small g ds (and-right (leb (length ds) n) (all (λ d. not (badDifference d)) ds) t), leb→le (length ds) n (and-left (leb (length ds) n) (all (λ d. not (badDifference d)) ds) t)))
+
+pub rowOf-sound : (t : Trial) (g : ℕ) → Accepted t → T (soundRow (t .offers) (rowOf t g))
+unfolding rowOf byOffer
+rowOf-sound t g acc =
+    and-both (eqb (length (rowOf t g)) (t .offers)) (all finite (rowOf t g))
+    (subst (λ (n : ℕ). T (eqb n (t .offers))) (sym (rowOf-length t g)) (eqb-refl (t .offers)))
+    (rw (all-map (λ ds. ofInt binary64 (signedSum g ds)) finite (byOffer t))
+      (all-le (okOffer (t .pairs)) (λ ds. finite (ofInt binary64 (signedSum g ds))) (byOffer t) (λ ds u. sum-finite (t .pairs) g ds (acc .pairs-most) u) (offers-ok (t .offers) (t .pairs) (t .differences) (acc .in-range))))
+
+pub trialRows-length : (t : Trial) → length (trialRows t) ≡ rowTotal t
+unfolding trialRows
+trialRows-length t = tabulate-length (rowTotal t) (λ g. rowOf t g)
+
+pub trialRows-row : (t : Trial) (g : ℕ) → g < rowTotal t → getD (trialRows t) g [] ≡ rowOf t g
+unfolding trialRows
+trialRows-row t g h = tabulate-getD (rowTotal t) (λ g. rowOf t g) g [] h
+
+pub trialRows-sound : (t : Trial) → Accepted t → Sound (t .offers) (trialRows t)
+unfolding trialRows
+trialRows-sound t acc = all-tabulate (soundRow (t .offers)) (rowTotal t) (λ g. rowOf t g) (λ g. rowOf-sound t g acc)
+
+even-rows : (t : Trial) → T (all (λ r. eqb (length r) (t .offers)) (trialRows t))
+unfolding trialRows
+even-rows t = all-tabulate (λ r. eqb (length r) (t .offers)) (rowTotal t) (λ g. rowOf t g) (λ g. subst (λ (n : ℕ). T (eqb n (t .offers))) (sym (rowOf-length t g)) (eqb-refl (t .offers)))
+
+-- the lent table has these rows
+pub tableOf-rows : (t : Trial) → rowsOf (rowTotal t) (t .offers) (tableOf t) ≡ trialRows t
+unfolding tableOf
+tableOf-rows t =
+    ap (λ (m : ℕ). rowsOf m (t .offers) (joined (trialRows t))) (sym (trialRows-length t))
+    ∙ rowsOf-joined (t .offers) (trialRows t) (even-rows t)
+
+pub rowTotal-some : (t : Trial) → 0 < rowTotal t
+unfolding rowTotal
+rowTotal-some t = pow-pos (t .pairs)

@@ -1,0 +1,4 @@
+pub mod Record
+pub mod Exchange
+pub mod Refusals
+pub mod Examples

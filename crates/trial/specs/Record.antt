@@ -1,0 +1,9 @@
+-- What every value of the record's type has: arrays of their lengths. Definitions only.
+use mathlib.Core.Path.{_≡_}
+use lib.ListN.{length}
+use Rattle.trial.specs.declared.Trial.{Trial}
+
+pub record Typed (t : Trial) : Type 0 where
+  pub codes-16 : length (t .codes) ≡ 16
+  pub digits-16 : length (t .digits) ≡ 16
+  pub differences-144 : length (t .differences) ≡ 144

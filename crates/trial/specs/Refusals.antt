@@ -1,0 +1,50 @@
+-- What of a trial record is turned away: 4, 3, then offers (at each, 5 before 6), then differences (7). Definitions only.
+--   badCounts t          the condition of 4: a count or k outside its range, or k above the offers
+--   badDigits c d        the condition of 5: printed digits outside 1 to 7, or the number c has more digits than d
+--   has c earlier        the condition of 6: the number is an earlier offer's
+--   badDifference d      the condition of 7: outside -134,217,727 to 134,217,727
+--   trialChecks t        all of them, in order
+--   trialRefusal t       the number of the first that holds, or 0
+use Prim.Native.Nat.{ℕ, _*_, _^_}
+use mathlib.Core.Bool.{Bool, false, _||_}
+use mathlib.Core.List.{List, [], _∷_, _++_, map}
+use lib.ListN.{take}
+use lib.Dec.{ltb, leb, eqb}
+use lib.IntN.{ℤ, natAbs}
+use Rattle.stepdown.specs.Refusals.{Checks, firstRefusal, outside, badLevel}
+use Rattle.trial.specs.declared.Trial.{Trial}
+
+unfoldable pub badCounts : Trial → Bool
+badCounts t = outside 1 9 (t .pairs) || (outside 1 16 (t .offers) || (outside 1 4 (t .k) || ltb (t .offers) (t .k)))
+
+unfoldable pub badDigits : ℕ → ℕ → Bool
+badDigits c d = outside 1 7 d || leb (10 ^ d) c
+
+unfoldable pub has : ℕ → List ℕ → Bool
+has c [] = false
+has c (x ∷ xs) = eqb c x || has c xs
+
+unfoldable pub badDifference : ℤ → Bool
+badDifference d = ltb 134217727 (natAbs d)
+
+-- each offer after the earlier ones, whose numbers are listed
+unfoldable pub offerChecks : List ℕ → List ℕ → List ℕ → Checks
+unfolding badDigits has
+offerChecks earlier [] ds = []
+offerChecks earlier (c ∷ cs) [] = []
+offerChecks earlier (c ∷ cs) (d ∷ ds) = (badDigits c d, 5) ∷ (has c earlier, 6) ∷ offerChecks (c ∷ earlier) cs ds
+
+unfoldable pub differenceChecks : List ℤ → Checks
+unfolding badDifference
+differenceChecks ds = map (λ d. (badDifference d, 7)) ds
+
+unfoldable pub trialChecks : Trial → Checks
+unfolding badCounts badLevel offerChecks differenceChecks
+trialChecks t =
+    (badCounts t, 4)
+    ∷ (badLevel (t .a) (t .b), 3)
+    ∷ (offerChecks [] (take (t .offers) (t .codes)) (take (t .offers) (t .digits)) ++ differenceChecks (take (t .offers * t .pairs) (t .differences)))
+
+unfoldable pub trialRefusal : Trial → ℕ
+unfolding firstRefusal trialChecks
+trialRefusal t = firstRefusal (trialChecks t)
