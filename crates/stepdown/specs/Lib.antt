@@ -3,4 +3,5 @@ pub mod Columns
 pub mod Method
 pub mod Runs
 pub mod Refusals
+pub mod Buffers
 pub mod Examples
