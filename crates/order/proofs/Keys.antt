@@ -13,7 +13,7 @@ use mathlib.Core.Bool.{Bool, true, false, not, cond, _&&_, _||_, Bool·beq}
 use lib.IntN.{ℤ, pos, negsuc}
 use lib.Dec.{ltb, leb, eqb, T, ltb→lt, leb→le, eqb→eq}
 use lib.Pow.{pow-add, pow-pos, pow-lt}
-use lib.Ieee.{Float, nan, inf, fin, Format, binary64, prec, emax, low, up, down, top, hid, below, level, lt, eq, le, fits, toBits, ofBits}
+use lib.Ieee.{Float, nan, inf, fin, Format, binary64, prec, emax, low, up, down, top, hid, below, level, lt, eq, le, div, fits, toBits, ofBits}
 use lib.Ieee.Fits.{down-pos, and-l, and-r}
 use lib.Ieee.Scale.{overflow}
 use lib.Ieee.Bits.{ofBits-toBits}
@@ -159,6 +159,11 @@ pub atMost-key : (x y : Float) → T (finite x) → T (finite y) → atMost x y 
 atMost-key x y p q = atMost-not x y p q ∙ ap not (smaller-key y x q p) ∙ sym (leb-not (key x) (key y))
 
 -- ---- plus zero for either zero
+
+-- minus zero and zero are equal, and the one that is given is plus zero
+pub zeros-equal : (smaller (fin true 0 (pos 0)) plusZero ≡ false) × (smaller plusZero (fin true 0 (pos 0)) ≡ false) × (unsigned (fin true 0 (pos 0)) ≡ plusZero)
+unfolding lt eq div unsigned
+zeros-equal = (refl, refl, refl)
 
 pub zero-finite : T (finite plusZero)
 unfolding finite fits

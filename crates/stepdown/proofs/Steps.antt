@@ -44,7 +44,7 @@ leftOver live r = live ∖ rejectedSet r
 
 pub over-length : (c : Float) (row : List Float) → length (over c row) ≡ length row
 unfolding over
-over-length c row = length-map row (λ x. smaller c x)
+over-length c row = length-map row _
 
 -- a column of the run's rejected set, by its mask
 pub at-column : (r : Run) (j : ℕ) → j < r .columns → has (rejectedSet r) j ≡ inSet (r .rejected) j
