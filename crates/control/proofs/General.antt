@@ -13,9 +13,9 @@ use lib.Ieee.{Float}
 use Rattle.order.specs.Order.{finite, smaller, plusZero}
 use Rattle.order.proofs.Booleans.{and-left, and-right, and-both, not-below}
 use Rattle.order.proofs.Keys.{key}
-use Rattle.select.specs.Counting.{count, countBelow, all}
+use Rattle.order.specs.Counting.{count, countBelow, all}
 use Rattle.select.specs.Rank.{kthLargest}
-use Rattle.select.proofs.Counts.{count-map, count-le-all, countBelow-le, countBelow-none, countBelow-list, all-getD}
+use Rattle.order.proofs.Counts.{count-map, count-le-all, countBelow-le, countBelow-none, countBelow-list, all-getD}
 use Rattle.stepdown.specs.Tables.{allowance}
 use Rattle.stepdown.specs.Columns.{Columns, size, _∩_, within}
 use Rattle.stepdown.specs.Method.{kMax, criticalValue}

@@ -13,8 +13,8 @@ use lib.Ieee.{Float}
 use Rattle.order.specs.Order.{finite, smaller, plusZero}
 use Rattle.order.proofs.Booleans.{and-left, and-right, and-both, or-left, or-right}
 use Rattle.order.proofs.Keys.{key, smaller-key}
-use Rattle.select.specs.Counting.{count, countBelow, all}
-use Rattle.select.proofs.Counts.{countBelow-le, countBelow-list}
+use Rattle.order.specs.Counting.{count, countBelow, all}
+use Rattle.order.proofs.Counts.{countBelow-le, countBelow-list}
 use Rattle.select.proofs.Ranks.{above, Finite}
 use Rattle.stepdown.specs.Columns.{Columns, size, _∪_, _∩_, _∖_, within, over, choose, inSet}
 use Rattle.stepdown.specs.Method.{kMax, criticalValue, putBack}

@@ -9,8 +9,8 @@ use lib.ListN.{length, getD}
 use lib.Dec.{T, eqb}
 use lib.Ieee.{Float, nan}
 use borrow.Author.Tests.{eq-eqb, ne-eqb}
-use Rattle.select.specs.Counting.{bit, count, countBelow}
-use Rattle.select.proofs.Counts.{bit-T, bit-yes, count-map, countBelow-le, countBelow-list}
+use Rattle.order.specs.Counting.{bit, count, countBelow}
+use Rattle.order.proofs.Counts.{bit-T, bit-yes, count-map, countBelow-le, countBelow-list}
 use Rattle.stepdown.specs.Columns.{Columns, within}
 use Rattle.stepdown.proofs.Sets.{has}
 

@@ -16,7 +16,7 @@ use Rattle.stepdown.proofs.Tabulate.{tabulate-length, tabulate-getD}
 use Rattle.stepdown.proofs.Rows.{rowsOf-length, rowsOf-row, rowsOf-sound}
 use Rattle.stepdown.proofs.Critical.{Sound, soundRow, sound-length}
 use Rattle.stepdown.proofs.Accepted.{Shape, Level, Accepted, accepted, allowance-lt}
-use Rattle.select.proofs.Counts.{all-getD}
+use Rattle.order.proofs.Counts.{all-getD}
 use Rattle.control.specs.Statements.{runsThatReject, entry, SameOn}
 use Rattle.control.proofs.General.{Member, general}
 use Rattle.control.proofs.Reorder.{within-same, reordered}

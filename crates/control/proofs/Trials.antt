@@ -12,7 +12,7 @@ use lib.Arith.{bin-ind}
 use lib.Bits.{bitXor, differ, xor-step, xor-shr, xor-mod, xor-self, xor-lt, xor-zero-l}
 use lib.IntN.{ℤ, pos}
 use lib.Ieee.{Float, nan, binary64, ofInt}
-use Rattle.select.proofs.Counts.{countBelow-le}
+use Rattle.order.proofs.Counts.{countBelow-le}
 use Rattle.stepdown.specs.Tables.{rowsOf, allowance}
 use Rattle.stepdown.specs.Columns.{Columns, within, inSet}
 use Rattle.stepdown.specs.Runs.{Outcome, begun, tabulate, fullRun, tableRun}

@@ -16,7 +16,7 @@ use lib.Dec.{leb, T}
 use lib.Ieee.{Float, nan}
 use lib.IntN.{ℤ, pos}
 use Rattle.order.specs.Order.{plusZero}
-use Rattle.select.specs.Counting.{countBelow}
+use Rattle.order.specs.Counting.{countBelow}
 use Rattle.stepdown.specs.Columns.{inSet}
 use Rattle.stepdown.specs.declared.Verdict.{Verdict}
 use Rattle.stepdown.specs.declared.Verdict.the-variants.{Rejected, Kept}

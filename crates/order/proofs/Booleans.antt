@@ -23,6 +23,10 @@ pub T-false : (b : Bool) → (T b → ⊥) → b ≡ false
 T-false true f = absurd (f tt)
 T-false false f = refl
 
+-- no test is both true and false
+pub never : (b : Bool) → b ≡ false → T b → ⊥
+never b e t = subst (λ (c : Bool). T c) e t
+
 pub true-T : (b : Bool) → b ≡ true → T b
 true-T b e = subst (λ (c : Bool). T c) (sym e) tt
 

@@ -106,6 +106,16 @@ key nan = 0
 key (inf s) = 0
 key (fin s m e) = signed (overflow binary64) s (mag binary64 m e)
 
+signed-some : (s : Bool) (B n : ℕ) → n < B → 0 < signed B s n
+signed-some false B n h = omega arith
+signed-some true B n h = omega arith
+
+pub key-some : (x : Float) → T (finite x) → 0 < key x
+unfolding finite key
+key-some nan p = absurd p
+key-some (inf s) p = absurd p
+key-some (fin s m e) p = signed-some s (overflow binary64) (mag binary64 m e) (mag-lt binary64 s m e p)
+
 pub smaller-key : (x y : Float) → T (finite x) → T (finite y) → smaller x y ≡ ltb (key x) (key y)
 unfolding finite key
 smaller-key nan y p q = absurd p

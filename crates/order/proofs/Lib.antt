@@ -1,2 +1,4 @@
 pub mod Booleans
+pub mod Counts
+pub mod Slices
 pub mod Keys

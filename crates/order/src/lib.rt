@@ -1,1 +1,44 @@
-// The order of f64 values. The definitions are in specs/, their laws in proofs/.
+// The order of f64 values: which are finite, and plus zero for either zero.
+// The definitions are in specs/, their laws in proofs/.
+ghost use mathlib.Core.Path.{_≡_};
+ghost use lib.ListN.{length};
+ghost use Rattle.order.specs.Order.{finite, unsigned};
+ghost use Rattle.order.specs.Counting.{all};
+
+// Whether x is neither infinite nor no number.
+pub fn is_finite(x: f64) -> bool
+    ensures { λ r. ⌜ r ≡ finite x ⌝ }
+{
+    let top = f64::from_bits(0x7FF0_0000_0000_0000);
+    if x < top {
+        let bottom = f64::from_bits(0xFFF0_0000_0000_0000);
+        return bottom < x;
+    }
+    false
+}
+
+// Whether every value of a slice is finite.
+pub fn all_finite(xs: &[f64]) -> bool
+    ensures { λ r. ⌜ r ≡ all finite (now (xs .entry)) ⌝ }
+{
+    let mut i: usize = 0;
+    while i < xs.len() {
+        let x = xs[i];
+        if is_finite(x) {
+            i += 1;
+        } else {
+            return false;
+        }
+    }
+    true
+}
+
+// x, and plus zero for either zero.
+pub fn plus_zero(x: f64) -> f64
+    ensures { λ r. ⌜ r ≡ unsigned x ⌝ }
+{
+    if x == 0.0 {
+        return 0.0;
+    }
+    x
+}

@@ -15,9 +15,9 @@ use borrow.Author.Tests.{lt-ltb, le-ltb, le-leb, lt-leb, eq-eqb, ne-eqb}
 use Rattle.order.specs.Order.{smaller, atMost, finite, plusZero, unsigned}
 use Rattle.order.proofs.Booleans.{same-test, true-T, and-left, and-right, and-both, not-below, not-within, leb-not}
 use Rattle.order.proofs.Keys.{key, smaller-key, atMost-key, unsigned-key, unsigned-same, unsigned-twice, unsigned-finite, zero-finite}
-use Rattle.select.specs.Counting.{bit, count, all}
+use Rattle.order.specs.Counting.{bit, count, all}
 use Rattle.select.specs.Rank.{firstThat, fromTop, fromBottom, kthLargest, mthSmallest}
-use Rattle.select.proofs.Counts.{bit-T, all-le, count-le, count-same, count-same-all, count-le-all, count-not, count-both, count-length}
+use Rattle.order.proofs.Counts.{bit-T, all-le, count-le, count-same, count-same-all, count-le-all, count-not, count-both, count-length}
 
 abbrev pub above : ℕ → List Float → ℕ
 above v xs = count (λ x. ltb v (key x)) xs

@@ -10,7 +10,7 @@ use mathlib.Core.List.{List, [], _∷_}
 use lib.Dec.{ltb, leb}
 use lib.Ieee.{Float}
 use Rattle.order.specs.Order.{smaller, atMost, plusZero, unsigned}
-use Rattle.select.specs.Counting.{count}
+use Rattle.order.specs.Counting.{count}
 
 unfoldable pub firstThat : (Float → Bool) → List Float → Float
 unfolding unsigned

@@ -14,7 +14,7 @@ use lib.Ieee.{Float}
 use borrow.Author.Tests.{ltb-false, leb-false, eqb-true, eqb-false, not-false}
 use Rattle.order.specs.Order.{finite}
 use Rattle.order.proofs.Booleans.{true-T, and-left, and-right}
-use Rattle.select.specs.Counting.{all}
+use Rattle.order.specs.Counting.{all}
 use Rattle.select.proofs.Ranks.{Finite}
 use Rattle.stepdown.specs.Tables.{allowance}
 use Rattle.stepdown.specs.Refusals.{Checks, firstRefusal, outside, badShape, badLevel, badValue, tableChecks, tableRefusal}

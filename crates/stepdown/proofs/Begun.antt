@@ -7,7 +7,7 @@ use mathlib.Core.List.{List, zipWith}
 use lib.ListN.{length, replicate, length-replicate}
 use lib.Dec.{T}
 use lib.Ieee.{Float}
-use Rattle.select.specs.Counting.{count}
+use Rattle.order.specs.Counting.{count}
 use Rattle.stepdown.specs.Tables.{rowsOf, allowance}
 use Rattle.stepdown.specs.Columns.{Columns, size, _∖_, columnsOf}
 use Rattle.stepdown.specs.Runs.{begun, rejectedSet}

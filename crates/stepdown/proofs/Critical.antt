@@ -16,9 +16,9 @@ use lib.Ieee.{Float}
 use Rattle.order.specs.Order.{finite, plusZero, unsigned}
 use Rattle.order.proofs.Booleans.{and-left, and-right, and-both, not-below, not-within}
 use Rattle.order.proofs.Keys.{key, unsigned-key}
-use Rattle.select.specs.Counting.{count, all}
+use Rattle.order.specs.Counting.{count, all}
 use Rattle.select.specs.Rank.{kthLargest, mthSmallest}
-use Rattle.select.proofs.Counts.{all-true, all-le, all-both, all-map, count-le, count-le-all, count-map, count-length}
+use Rattle.order.proofs.Counts.{all-true, all-le, all-both, all-map, count-le, count-le-all, count-map, count-length}
 use Rattle.select.proofs.Ranks.{above, Finite, Ranks, kthLargest-law, kthLargest-holds, kthLargest-ranks, kthLargest-finite, mthSmallest-above, mthSmallest-holds, mthSmallest-finite, largest-reaches}
 use Rattle.stepdown.specs.Columns.{Columns, size, _∪_, within, choose}
 use Rattle.stepdown.specs.Method.{kMax, criticalValue, putBack}

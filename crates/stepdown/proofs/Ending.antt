@@ -8,7 +8,7 @@ use mathlib.Core.List.{List, [], _∷_, zipWith}
 use lib.ListN.{length, replicate}
 use lib.Dec.{T}
 use lib.Ieee.{Float}
-use Rattle.select.specs.Counting.{bit, count}
+use Rattle.order.specs.Counting.{bit, count}
 use Rattle.stepdown.specs.Tables.{rowsOf}
 use Rattle.stepdown.specs.Columns.{Columns, size, _∪_, _∩_, _∖_, over}
 use Rattle.stepdown.specs.Runs.{begun, rejectedSet, barOf, newly, after, recordOf, Step, stepsFrom, stepsOf}

@@ -13,8 +13,8 @@ use borrow.Author.Tests.{le-leb}
 use Rattle.order.specs.Order.{atMost}
 use Rattle.order.proofs.Booleans.{and-left, and-right, or-left, true-T}
 use Rattle.order.proofs.Keys.{key, atMost-key}
-use Rattle.select.specs.Counting.{bit, count}
-use Rattle.select.proofs.Counts.{count-length}
+use Rattle.order.specs.Counting.{bit, count}
+use Rattle.order.proofs.Counts.{count-length}
 use Rattle.stepdown.specs.Tables.{rowsOf}
 use Rattle.stepdown.specs.Refusals.{tableRefusal}
 use Rattle.stepdown.specs.Columns.{Columns, size, _∪_, _∩_, _∖_, choose}

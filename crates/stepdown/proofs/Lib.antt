@@ -1,6 +1,8 @@
 pub mod Sets
 pub mod Critical
 pub mod Masks
+pub mod Narrowing
+pub mod Topmost
 pub mod Tabulate
 pub mod Rows
 pub mod Steps

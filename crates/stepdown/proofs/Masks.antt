@@ -7,7 +7,7 @@ use mathlib.Core.Bool.{Bool, true, false}
 use mathlib.Core.List.{List, [], _∷_}
 use lib.ListN.{length, getD}
 use lib.Dec.{eqb}
-use Rattle.select.specs.Counting.{bit}
+use Rattle.order.specs.Counting.{bit}
 use Rattle.stepdown.specs.Columns.{Columns, inSet, columnsOf, maskOf}
 use Rattle.stepdown.proofs.Sets.{has}
 
@@ -47,4 +47,4 @@ columnsOf-zero (suc n) (suc j) = columnsOf-zero n j
 pub maskOf-lt : (K : Columns) → maskOf K < 2 ^ length K
 unfolding maskOf
 maskOf-lt [] = omega arith
-maskOf-lt (b ∷ K) = omega (arith, Rattle.select.proofs.Counts.bit-one b, maskOf-lt K, pow-suc 2 (length K))
+maskOf-lt (b ∷ K) = omega (arith, Rattle.order.proofs.Counts.bit-one b, maskOf-lt K, pow-suc 2 (length K))

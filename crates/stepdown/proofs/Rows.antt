@@ -11,7 +11,7 @@ use lib.Dec.{T, eqb, eqb-refl}
 use lib.Ieee.{Float}
 use Rattle.order.specs.Order.{finite}
 use Rattle.order.proofs.Booleans.{and-left, and-right, and-both}
-use Rattle.select.specs.Counting.{all}
+use Rattle.order.specs.Counting.{all}
 use Rattle.select.proofs.Ranks.{Finite}
 use Rattle.stepdown.specs.Tables.{rowsOf}
 use Rattle.stepdown.proofs.Critical.{Sound, soundRow}

@@ -12,8 +12,8 @@ use mathlib.Core.List.{List, [], _∷_, _++_, map, zipWith}
 use lib.ListN.{length, getD, replicate, length-map, List·getD-map}
 use lib.Dec.{T}
 use Rattle.order.proofs.Booleans.{and-left, and-right, and-both, or-left, or-right}
-use Rattle.select.specs.Counting.{bit, count, all}
-use Rattle.select.proofs.Counts.{bit-le, bit-one, bit-yes, count-length, count-map, count-append, all-append, all-le, all-map}
+use Rattle.order.specs.Counting.{bit, count, all}
+use Rattle.order.proofs.Counts.{bit-le, bit-one, bit-yes, count-length, count-map, count-append, all-append, all-le, all-map}
 use Rattle.stepdown.specs.Columns.{Columns, size, _∪_, _∩_, _∖_, within, choose}
 
 abbrev pub has : Columns → ℕ → Bool

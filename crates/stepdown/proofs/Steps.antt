@@ -15,8 +15,8 @@ use lib.Ieee.{Float}
 use borrow.Author.Tests.{ltb-false, eqb-false}
 use Rattle.order.specs.Order.{finite, smaller}
 use Rattle.order.proofs.Booleans.{and-left}
-use Rattle.select.specs.Counting.{all}
-use Rattle.select.proofs.Counts.{all-getD}
+use Rattle.order.specs.Counting.{all}
+use Rattle.order.proofs.Counts.{all-getD}
 use Rattle.select.proofs.Ranks.{Finite}
 use Rattle.stepdown.specs.Tables.{allowance}
 use Rattle.stepdown.specs.Columns.{Columns, size, _∪_, _∩_, _∖_, over, inSet, columnsOf, maskOf}

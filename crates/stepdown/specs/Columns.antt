@@ -14,7 +14,7 @@ use mathlib.Core.List.{List, [], _∷_, _++_, map, zipWith}
 use lib.Dec.{eqb}
 use lib.Ieee.{Float}
 use Rattle.order.specs.Order.{smaller}
-use Rattle.select.specs.Counting.{bit, count}
+use Rattle.order.specs.Counting.{bit, count}
 
 infixl 70 _∩_
 infixl 65 _∪_

@@ -4,4 +4,5 @@ pub mod Method
 pub mod Runs
 pub mod Refusals
 pub mod Buffers
+pub mod Internal
 pub mod Examples

@@ -9,7 +9,7 @@ use mathlib.Core.List.{List, map}
 use lib.ListN.{length, getD}
 use lib.Ieee.{Float, nan}
 use Rattle.order.specs.Order.{atMost}
-use Rattle.select.specs.Counting.{count}
+use Rattle.order.specs.Counting.{count}
 use Rattle.select.specs.Rank.{kthLargest, mthSmallest}
 use Rattle.stepdown.specs.Columns.{Columns, _∪_, within, choose}
 

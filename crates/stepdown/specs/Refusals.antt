@@ -16,7 +16,7 @@ use lib.ListN.{length}
 use lib.Dec.{ltb, leb, eqb}
 use lib.Ieee.{Float}
 use Rattle.order.specs.Order.{finite}
-use Rattle.select.specs.Counting.{all}
+use Rattle.order.specs.Counting.{all}
 use Rattle.stepdown.specs.Columns.{size}
 use Rattle.stepdown.specs.Runs.{rejectedSet}
 use Rattle.stepdown.specs.declared.Run.{Run}

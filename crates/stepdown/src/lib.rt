@@ -1,5 +1,7 @@
 // The stepdown method over a table of f64 values: the run as a value, its steps, its verdicts.
 // The definitions are in specs/, their laws in proofs/.
+mod kmax; // a row's k-max
+mod smallest; // the m-th smallest of a slice
 
 // What a step leaves behind (document 01: record): its number, from 1, and its critical value.
 pub struct Record {

@@ -9,8 +9,8 @@ use lib.Dec.{T, ltb}
 use lib.IntN.{ℤ}
 use borrow.Author.Tests.{ltb-false}
 use Rattle.order.proofs.Booleans.{and-both, and-left, and-right}
-use Rattle.select.specs.Counting.{all}
-use Rattle.select.proofs.Counts.{all-append}
+use Rattle.order.specs.Counting.{all}
+use Rattle.order.proofs.Counts.{all-append}
 use Rattle.stepdown.specs.Refusals.{Checks, firstRefusal, outside, badLevel}
 use Rattle.stepdown.proofs.Accepted.{NoneHolds, none-holds, or-none, inside, Level, level}
 use Rattle.trial.specs.Refusals.{badCounts, badDigits, has, badDifference, offerChecks, differenceChecks, trialChecks, trialRefusal}

@@ -16,7 +16,7 @@ use lib.Ieee.Fits.{ofInt-fits}
 use borrow.Author.Tests.{ltb-true, ltb-false}
 use Rattle.order.specs.Order.{finite}
 use Rattle.order.proofs.Booleans.{and-left, and-right}
-use Rattle.select.specs.Counting.{all}
+use Rattle.order.specs.Counting.{all}
 use Rattle.trial.specs.Exchange.{exchanged, signedSum}
 use Rattle.trial.specs.Refusals.{badDifference}
 

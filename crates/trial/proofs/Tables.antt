@@ -14,8 +14,8 @@ use lib.Pow.{pow-pos}
 use lib.Ieee.{Float, nan, binary64, ofInt}
 use Rattle.order.specs.Order.{finite}
 use Rattle.order.proofs.Booleans.{and-both, and-left, and-right}
-use Rattle.select.specs.Counting.{all}
-use Rattle.select.proofs.Counts.{all-map, all-le, all-append, all-getD}
+use Rattle.order.specs.Counting.{all}
+use Rattle.order.proofs.Counts.{all-map, all-le, all-append, all-getD}
 use Rattle.stepdown.specs.Tables.{rowsOf}
 use Rattle.stepdown.specs.Runs.{tabulate}
 use Rattle.stepdown.proofs.Tabulate.{tabulate-length, tabulate-getD}

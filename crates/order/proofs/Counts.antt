@@ -6,8 +6,8 @@ use mathlib.Core.Bool.{Bool, true, false, not, cond, _&&_, _||_}
 use mathlib.Core.List.{List, [], _∷_, _++_, map}
 use lib.ListN.{length, getD}
 use lib.Dec.{T}
 use Rattle.order.proofs.Booleans.{and-left, and-right, and-both}
-use Rattle.select.specs.Counting.{bit, count, countBelow, all}
+use Rattle.order.specs.Counting.{bit, count, countBelow, all}
 
 -- ---- bits
 
@@ -28,6 +28,10 @@ bit-yes false t = absurd t
 pub bit-T : (b : Bool) → 0 < bit b → T b
 bit-T true h = tt
 bit-T false h = absurd (omega arith)
+
+pub bit-none : (b : Bool) → (T b → ⊥) → bit b ≡ 0
+bit-none true f = absurd (f tt)
+bit-none false f = refl
 
 pub bit-not : (b : Bool) → bit b + bit (not b) ≡ 1
 bit-not true = refl
@@ -89,10 +93,34 @@ module _ {A : Type 0} where
   pub count-same-all : (p q : A → Bool) (l : List A) → ((x : A) → p x ≡ q x) → count p l ≡ count q l
   count-same-all p q l h = count-same (λ _. true) p q l (λ x _. h x) (all-true l)
 
+  -- what one test lets by, two others let by between them
+  pub count-sum-le : (r p q s : A → Bool) (l : List A) → ((x : A) → T (r x) → bit (p x) ≤ bit (q x) + bit (s x)) → T (all r l) → count p l ≤ count q l + count s l
+  unfolding count all
+  count-sum-le r p q s [] h t = omega arith
+  count-sum-le r p q s (x ∷ l) h t = omega (arith, h x (and-left (r x) (all r l) t), count-sum-le r p q s l h (and-right (r x) (all r l) t))
+
+  -- a test that lets fewer by, and not the member at i
+  pub count-less-of : (r p q : A → Bool) (l : List A) (i : ℕ) (d : A) → ((x : A) → T (r x) → T (q x) → T (p x)) → T (all r l) → i < length l → T (p (getD l i d)) → (T (q (getD l i d)) → ⊥) → count q l < count p l
+  unfolding count all
+  count-less-of r p q [] i d h rs k t f = absurd (omega arith)
+  count-less-of r p q (x ∷ l) zero d h rs k t f = omega (arith, bit-yes (p x) t, bit-none (q x) f, count-le r q p l h (and-right (r x) (all r l) rs))
+  count-less-of r p q (x ∷ l) (suc i) d h rs k t f =
+      omega (arith, bit-le (q x) (p x) (h x (and-left (r x) (all r l) rs)), count-less-of r p q l i d h (and-right (r x) (all r l) rs) (omega arith) t f)
+
   pub count-not : (p : A → Bool) (l : List A) → count p l + count (λ x. not (p x)) l ≡ length l
   unfolding count
   count-not p [] = refl
   count-not p (x ∷ l) = omega (arith, bit-not (p x), count-not p l)
+
+  pub count-none : (l : List A) → count (λ _. false) l ≡ 0
+  unfolding count
+  count-none [] = refl
+  count-none (x ∷ l) = omega (arith, count-none l)
+
+  pub count-all : (l : List A) → count (λ _. true) l ≡ length l
+  unfolding count
+  count-all [] = refl
+  count-all (x ∷ l) = omega (arith, count-all l)
 
   pub count-length : (p : A → Bool) (l : List A) → count p l ≤ length l
   count-length p l = omega (arith, count-not p l)
