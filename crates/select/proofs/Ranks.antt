@@ -247,3 +247,17 @@ mthSmallest-finite m xs fs = first-finite (fromBottom m xs) xs fs
 pub largest-reaches : (xs : List Float) → Finite xs → (v : ℕ) → 0 < from v xs → v ≤ key (kthLargest 1 xs)
 largest-reaches xs fs zero h = omega arith
 largest-reaches xs fs (suc v) h = kthLargest-law 1 xs fs (omega arith) (omega (arith, count-length (λ x. leb (suc v) (key x)) xs)) v .1 h
+
+-- a selected value has no minus sign on zero
+first-plain : (p : Float → Bool) (xs : List Float) → unsigned (firstThat p xs) ≡ firstThat p xs
+unfolding firstThat unsigned
+first-plain p [] = refl
+first-plain p (x ∷ xs) = go (p x) (first-plain p xs)
+  where
+    go : (b : Bool) → unsigned (firstThat p xs) ≡ firstThat p xs → unsigned (cond b (unsigned x) (firstThat p xs)) ≡ cond b (unsigned x) (firstThat p xs)
+    go true ih = unsigned-twice x
+    go false ih = ih
+
+pub mthSmallest-plain : (m : ℕ) (xs : List Float) → unsigned (mthSmallest m xs) ≡ mthSmallest m xs
+unfolding mthSmallest
+mthSmallest-plain m xs = first-plain (fromBottom m xs) xs

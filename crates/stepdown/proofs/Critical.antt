@@ -61,20 +61,19 @@ module _ (k : ℕ) (K : Columns) (row : List Float) (s : T (soundRow (length K) 
 -- ---- c(K)
 
 -- the rows' k-max values
-tops : ℕ → List (List Float) → Columns → List Float
+abbrev pub tops : ℕ → List (List Float) → Columns → List Float
 tops k X K = map (λ row. kMax k K row) X
 
-tops-finite : (n k : ℕ) (X : List (List Float)) (K : Columns) → Sound n X → Finite (tops k X K)
-unfolding tops
+pub tops-finite : (n k : ℕ) (X : List (List Float)) (K : Columns) → Sound n X → Finite (tops k X K)
 tops-finite n k X K s = rw (all-map (λ row. kMax k K row) finite X) (all-le (soundRow n) (λ row. finite (kMax k K row)) X (kMax-finite n k K) s)
 
 pub criticalValue-finite : (n k e : ℕ) (X : List (List Float)) (K : Columns) → Sound n X → T (finite (criticalValue k e X K))
-unfolding criticalValue tops
+unfolding criticalValue
 criticalValue-finite n k e X K s = mthSmallest-finite (length X - e) (tops k X K) (tops-finite n k X K s)
 
 module _ (n k e : ℕ) (X : List (List Float)) (s : Sound n X) (pos : 0 < k) (few : e < length X) where
   pub criticalValue-law : (K : Columns) (v : ℕ) → (v < key (criticalValue k e X K)) ↔ (e < count (λ row. ltb v (key (kMax k K row))) X)
-  unfolding criticalValue tops
+  unfolding criticalValue
   criticalValue-law K v =
       (λ h. omega (arith, count-map (λ row. kMax k K row) (λ x. ltb v (key x)) X, law .0 h), λ h. law .1 (omega (arith, count-map (λ row. kMax k K row) (λ x. ltb v (key x)) X)))
     where
@@ -96,7 +95,7 @@ module _ (n k e : ℕ) (X : List (List Float)) (s : Sound n X) (pos : 0 < k) (fe
 
   -- c(K) is a value of the table, with plus zero for either zero: what holds of all of those holds of it
   pub criticalValue-holds : (K : Columns) → length K ≡ n → k ≤ size K → (p : Float → Bool) → T (all (λ row. all (λ x. p (unsigned x)) row) X) → T (p (criticalValue k e X K))
-  unfolding criticalValue tops
+  unfolding criticalValue
   criticalValue-holds K h wide p t =
       mthSmallest-holds (length X - e) (tops k X K) (tops-finite n k X K s) (omega arith) (omega (arith, length-map X (λ row. kMax k K row))) p
       (rw (all-map (λ row. kMax k K row) (λ x. p (unsigned x)) X)
@@ -110,7 +109,7 @@ module _ (n k e : ℕ) (X : List (List Float)) (s : Sound n X) (pos : 0 < k) (fe
 -- ---- the largest critical value with k - 1 columns put back
 
 module _ (n k e : ℕ) (X : List (List Float)) (s : Sound n X) (A R : Columns) where
-  sets-finite : Finite (map (λ I. criticalValue k e X (A ∪ I)) (choose (k - 1) R))
+  pub sets-finite : Finite (map (λ I. criticalValue k e X (A ∪ I)) (choose (k - 1) R))
   sets-finite = rw (all-map (λ I. criticalValue k e X (A ∪ I)) finite (choose (k - 1) R))
     (all-le (λ _. true) (λ I. finite (criticalValue k e X (A ∪ I))) (choose (k - 1) R) (λ I t. criticalValue-finite n k e X (A ∪ I) s) (all-true (choose (k - 1) R)))
 

@@ -3,6 +3,9 @@ pub mod Critical
 pub mod Masks
 pub mod Narrowing
 pub mod Topmost
+pub mod Filling
+pub mod Walking
+pub mod Largest
 pub mod Tabulate
 pub mod Rows
 pub mod Steps

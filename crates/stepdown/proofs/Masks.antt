@@ -48,3 +48,16 @@ pub maskOf-lt : (K : Columns) → maskOf K < 2 ^ length K
 unfolding maskOf
 maskOf-lt [] = omega arith
 maskOf-lt (b ∷ K) = omega (arith, Rattle.order.proofs.Counts.bit-one b, maskOf-lt K, pow-suc 2 (length K))
+
+pub maskOf-columnsOf : (n s : ℕ) → s < 2 ^ n → maskOf (columnsOf n s) ≡ s
+unfolding columnsOf maskOf
+maskOf-columnsOf zero s h = omega arith
+maskOf-columnsOf (suc n) s h = omega (arith, maskOf-columnsOf n (s / 2) (omega (arith, pow-suc 2 n)), low-digit s)
+  where
+    low-digit : (s : ℕ) → bit (eqb (s % 2) 1) ≡ s % 2
+    low-digit s = go (s % 2) (omega arith)
+      where
+        go : (d : ℕ) → d < 2 → bit (eqb d 1) ≡ d
+        go zero h = refl
+        go (suc zero) h = refl
+        go (suc (suc d)) h = absurd (omega arith)

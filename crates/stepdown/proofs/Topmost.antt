@@ -31,7 +31,7 @@ use Rattle.stepdown.proofs.Masks.{columnsOf-length}
 use Rattle.stepdown.proofs.Narrowing.{low, finite-low}
 
 -- a low bound is below a finite value by their keys, minus infinity's being 0
-smaller-low : (t x : Float) → T (low t) → T (finite x) → smaller t x ≡ ltb (key t) (key x)
+pub smaller-low : (t x : Float) → T (low t) → T (finite x) → smaller t x ≡ ltb (key t) (key x)
 unfolding finite lt key
 smaller-low nan x l f = absurd l
 smaller-low (inf true) nan l f = absurd f
@@ -223,7 +223,7 @@ come-all row s v = let e : length row - 0 ≡ length row = omega arith in ap (λ
 
 -- ---- the end
 
-low-finite : (x : Float) → T (low x) → 0 < key x → T (finite x)
+pub low-finite : (x : Float) → T (low x) → 0 < key x → T (finite x)
 unfolding finite key
 low-finite nan l p = absurd l
 low-finite (inf s) l p = absurd (omega arith)

@@ -5,12 +5,18 @@
 --   larger b c           the larger of two values, the first of equals
 --   bestOf b cs          the largest of b and all members
 --   every cols           the mask of all columns
-use Prim.Native.Nat.{ℕ, zero, suc, _-_, _^_}
+--   Ready t rows cols k  a table that has passed its checks
+--   Walk ..              what holds at each call of the put-back walk
+use Prim.Native.Nat.{ℕ, zero, suc, _+_, _-_, _*_, _^_, _≤_, _<_}
+use mathlib.Core.Path.{_≡_}
 use mathlib.Core.Bool.{Bool, true, false, cond, _&&_}
 use mathlib.Core.List.{List, [], _∷_}
-use lib.Dec.{eqb}
+use lib.Dec.{T, eqb}
+use lib.ListN.{length, getD}
 use lib.Ieee.{Float}
-use Rattle.order.specs.Order.{smaller}
+use Rattle.order.specs.Order.{finite, smaller}
+use Rattle.order.specs.Counting.{all}
+use Rattle.stepdown.specs.Columns.{size, columnsOf}
 use Rattle.stepdown.specs.declared.kmax.Top.{Top}
 
 abbrev pub between : Float → Float → Float → Bool
@@ -47,3 +53,21 @@ bestOf b (c ∷ cs) = bestOf (larger b c) cs
 
 abbrev pub every : ℕ → ℕ
 every cols = 2 ^ cols - 1
+
+-- ---- what private functions ask for
+
+pub record Ready (t : List Float) (rows cols k : ℕ) : Type 0 where
+  pub rows-most : rows ≤ 4096
+  pub cols-most : cols ≤ 32
+  pub full : length t ≡ rows * cols
+  pub finitely : T (all finite t)
+  pub k-some : 0 < k
+  pub k-most : k ≤ 4
+
+-- `set` is what is chosen so far, bit j of `rest` is column from + j of the rejected ones that are still to be looked at, and `left` are to be chosen
+pub record Walk (cols k set rest from left : ℕ) : Type 0 where
+  pub place : from ≤ cols
+  pub inside : set < 2 ^ cols
+  pub rests : rest < 2 ^ (cols - from)
+  pub apart : (j : ℕ) → T (getD (columnsOf (cols - from) rest) j false) → getD (columnsOf cols set) (from + j) false ≡ false
+  pub many : k ≤ size (columnsOf cols set) + left

@@ -1,6 +1,8 @@
 // The stepdown method over a table of f64 values: the run as a value, its steps, its verdicts.
 // The definitions are in specs/, their laws in proofs/.
+mod quantile; // c(K): a quantile of the k-max values, with the work buffer
 mod kmax; // a row's k-max
+mod putback; // the walk over put-back sets
 mod smallest; // the m-th smallest of a slice
 
 // What a step leaves behind (document 01: record): its number, from 1, and its critical value.
