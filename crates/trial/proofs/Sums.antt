@@ -55,8 +55,13 @@ pub signedSum-small : (g : ℕ) (ds : List ℤ) → InRange ds → natAbs (signe
 unfolding signedSum all
 signedSum-small g [] h = omega arith
 signedSum-small g (d ∷ ds) h =
-    omega (arith, abs-add (exchanged (eqb (g % 2) 1) d) (signedSum (g / 2) ds), abs-exchanged (eqb (g % 2) 1) d,
-      in-range d (and-left (not (badDifference d)) (all (λ d. not (badDifference d)) ds) h), signedSum-small (g / 2) ds (and-right (not (badDifference d)) (all (λ d. not (badDifference d)) ds) h))
+    omega (
+      arith,
+      abs-add (exchanged (eqb (g % 2) 1) d) (signedSum (g / 2) ds),
+      abs-exchanged (eqb (g % 2) 1) d,
+      in-range d (and-left (not (badDifference d)) (all (λ d. not (badDifference d)) ds) h),
+      signedSum-small (g / 2) ds (and-right (not (badDifference d)) (all (λ d. not (badDifference d)) ds) h),
+    )
 
 -- ---- as an f64
 

@@ -44,7 +44,7 @@ all-tabulate p (suc n) f h = and-both (p (f 0)) (all p (tabulate n (λ i. f (suc
 
 -- ---- differences, offer by offer
 
-drop-take : {A : Type 0} (n m : ℕ) (xs : List A) → drop n (take (n + m) xs) ≡ take m (drop n xs)
+pub drop-take : {A : Type 0} (n m : ℕ) (xs : List A) → drop n (take (n + m) xs) ≡ take m (drop n xs)
 drop-take n m xs = ap (drop n) (take-add n m xs) ∙ seam (decLe n (length xs))
   where
     seam : Dec (n ≤ length xs) → drop n (take n xs ++ take m (drop n xs)) ≡ take m (drop n xs)
@@ -61,7 +61,7 @@ offers-ok zero n xs h = tt
 offers-ok (suc m) n xs h =
     and-both (okOffer n (take n xs)) (all (okOffer n) (rowsOf m n (drop n xs)))
     (and-both (leb (length (take n xs)) n) (all (λ d. not (badDifference d)) (take n xs)) (le→leb (length (take n xs)) n (simp length-take (omega arith)))
-      (subst (λ (l : List ℤ). InRange l) (take-take n (suc m * n) xs (omega (arith, suc-mul m n))) (all-take (λ d. not (badDifference d)) n (take (suc m * n) xs) h)))
+    (subst (λ (l : List ℤ). InRange l) (take-take n (suc m * n) xs (omega (arith, suc-mul m n))) (all-take (λ d. not (badDifference d)) n (take (suc m * n) xs) h)))
     (offers-ok m n (drop n xs) (subst (λ (l : List ℤ). InRange l) rest (all-drop (λ d. not (badDifference d)) n (take (suc m * n) xs) h)))
   where
     sum : suc m * n ≡ n + m * n
@@ -87,7 +87,7 @@ rowOf-sound t g acc =
     and-both (eqb (length (rowOf t g)) (t .offers)) (all finite (rowOf t g))
     (subst (λ (n : ℕ). T (eqb n (t .offers))) (sym (rowOf-length t g)) (eqb-refl (t .offers)))
     (rw (all-map (λ ds. ofInt binary64 (signedSum g ds)) finite (byOffer t))
-      (all-le (okOffer (t .pairs)) (λ ds. finite (ofInt binary64 (signedSum g ds))) (byOffer t) (λ ds u. sum-finite (t .pairs) g ds (acc .pairs-most) u) (offers-ok (t .offers) (t .pairs) (t .differences) (acc .in-range))))
+    (all-le (okOffer (t .pairs)) (λ ds. finite (ofInt binary64 (signedSum g ds))) (byOffer t) (λ ds u. sum-finite (t .pairs) g ds (acc .pairs-most) u) (offers-ok (t .offers) (t .pairs) (t .differences) (acc .in-range))))
 
 pub trialRows-length : (t : Trial) → length (trialRows t) ≡ rowTotal t
 unfolding trialRows
@@ -101,7 +101,7 @@ pub trialRows-sound : (t : Trial) → Accepted t → Sound (t .offers) (trialRow
 unfolding trialRows
 trialRows-sound t acc = all-tabulate (soundRow (t .offers)) (rowTotal t) (λ g. rowOf t g) (λ g. rowOf-sound t g acc)
 
-even-rows : (t : Trial) → T (all (λ r. eqb (length r) (t .offers)) (trialRows t))
+pub even-rows : (t : Trial) → T (all (λ r. eqb (length r) (t .offers)) (trialRows t))
 unfolding trialRows
 even-rows t = all-tabulate (λ r. eqb (length r) (t .offers)) (rowTotal t) (λ g. rowOf t g) (λ g. subst (λ (n : ℕ). T (eqb n (t .offers))) (sym (rowOf-length t g)) (eqb-refl (t .offers)))
 

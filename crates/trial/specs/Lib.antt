@@ -1,4 +1,6 @@
 pub mod Record
 pub mod Exchange
 pub mod Refusals
+pub mod Lent
+pub mod Used
 pub mod Examples

@@ -3,12 +3,15 @@
 --   badDigits c d        the condition of 5: printed digits outside 1 to 7, or the number c has more digits than d
 --   has c earlier        the condition of 6: the number is an earlier offer's
 --   badDifference d      the condition of 7: outside -134,217,727 to 134,217,727
+--   earlierOf i cs       the first i numbers, the last of them first
+--   offerChecks earlier cs ds   5 and 6 of each offer, after the earlier ones
+--   differenceChecks ds  7 of each difference
 --   trialChecks t        all of them, in order
 --   trialRefusal t       the number of the first that holds, or 0
-use Prim.Native.Nat.{ℕ, _*_, _^_}
+use Prim.Native.Nat.{ℕ, zero, suc, _*_, _^_}
 use mathlib.Core.Bool.{Bool, false, _||_}
 use mathlib.Core.List.{List, [], _∷_, _++_, map}
-use lib.ListN.{take}
+use lib.ListN.{take, getD}
 use lib.Dec.{ltb, leb, eqb}
 use lib.IntN.{ℤ, natAbs}
 use Rattle.stepdown.specs.Refusals.{Checks, firstRefusal, outside, badLevel}
@@ -26,6 +29,10 @@ has c (x ∷ xs) = eqb c x || has c xs
 
 unfoldable pub badDifference : ℤ → Bool
 badDifference d = ltb 134217727 (natAbs d)
+
+unfoldable pub earlierOf : ℕ → List ℕ → List ℕ
+earlierOf zero cs = []
+earlierOf (suc i) cs = getD cs i 0 ∷ earlierOf i cs
 
 -- each offer after the earlier ones, whose numbers are listed
 unfoldable pub offerChecks : List ℕ → List ℕ → List ℕ → Checks

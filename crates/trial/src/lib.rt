@@ -1,5 +1,12 @@
-// A trial of offers in paired shops: its record, its table, its run.
+// A trial of offers in paired shops: its record, its checks, its table, its run.
 // The definitions are in specs/, their laws in proofs/.
+mod checks;
+mod entries;
+
+ghost use mathlib.Core.Path.{_≡_};
+ghost use lib.ListN.{length};
+ghost use Rattle.trial.specs.Refusals.{trialRefusal};
+ghost use Rattle.trial.specs.Lent.{tableCallRefusal, tableBuffer};
 
 // A trial, by value. The level is a/b as written. `codes` and `digits` hold each offer's number and how many digits are printed;
 // the difference of offer i and pair j (both from 0) stands at i * pairs + j. Places that the counts don't use are never looked at.
@@ -12,4 +19,41 @@ pub struct Trial {
     pub codes: [u32; 16],
     pub digits: [u8; 16],
     pub differences: [i32; 144],
+}
+
+// The number of the refusal that a trial meets first, and 0 where it is accepted.
+pub fn check(t: Trial) -> u32
+    ensures { λ r. ⌜ r ≡ trialRefusal t ⌝ }
+{
+    let counts = checks::bad_counts(t);
+    let level = checks::bad_level(t.a, t.b);
+    let f = checks::first_of(counts, 4, level, 3);
+    if f != 0 {
+        return f;
+    }
+    let codes = t.codes;
+    let digits = t.digits;
+    let r = checks::offers(codes, digits, t.offers);
+    if r != 0 {
+        return r;
+    }
+    let differences = t.differences;
+    checks::differences(differences, t.offers * t.pairs)
+}
+
+// The table of a trial into the first places of a lent buffer, row after row. The result is 0, or the number of the refusal, and then the buffer is unchanged.
+pub fn table(t: Trial, out: &mut [f64]) -> u32
+    ensures { λ r. ⌜ r ≡ tableCallRefusal t (length (now (out .entry))) ⌝ }
+    ensures { λ r. ⌜ now (out .exit) ≡ tableBuffer t (now (out .entry)) ⌝ }
+{
+    let r = check(t);
+    if r != 0 {
+        return r;
+    }
+    let total = entries::rows(t.pairs) * t.offers;
+    if out.len() < total {
+        return 12;
+    }
+    entries::fill(t, out, total);
+    0
 }

@@ -1,0 +1,55 @@
+-- `trial::checks::earlier` meets its contract. The loop's invariant: the code is among the first i codes exactly when it is among the first j.
+use mathlib.Core.Path.{_≡_, sym, _∙_}
+use Prim.Native.Nat.{_≤_}
+use native.Mathlib.Omega.{arith}
+use lib.ListN.{length}
+use borrow.Author.Needs.{needs}
+use Rattle.trial.specs.Refusals.{has, earlierOf}
+use Rattle.trial.proofs.Conditions.{earlier-hit, earlier-turn, earlier-none}
+use Rattle.trial.proofs.checks.earlier.Statement.{statement}
+use Rattle.trial.proofs.checks.earlier.Tie as tie
+
+abbrev Inv-loop : tie.InvT-loop
+Inv-loop i code codes j₀ j = (j ≤ i) × (i ≤ 16) × (i ≤ length codes) × (has code (earlierOf i codes) ≡ has code (earlierOf j codes))
+
+abbrev μ-loop : tie.MeasureT-loop
+μ-loop i code codes j₀ j = j
+
+loop-holds : tie.Need-loop-holds Inv-loop μ-loop
+loop-holds c = search needs
+
+sub-j : tie.Need-sub-j Inv-loop μ-loop
+sub-j c = search needs
+
+mul-if1 : tie.Need-mul-if1 Inv-loop μ-loop
+mul-if1 c = omega arith
+
+array-read-if1 : tie.Need-array-read-if1 Inv-loop μ-loop
+array-read-if1 c = omega arith
+
+returns : tie.Need-returns Inv-loop μ-loop
+returns c = let l = c .before .before .loop .inv in sym (l .3 ∙ earlier-hit _ _ _ (c .before .loop-test .taken) (c .if1 .taken))
+
+loop-less : tie.Need-loop-less Inv-loop μ-loop
+loop-less c = omega arith
+
+loop-again : tie.Need-loop-again Inv-loop μ-loop
+loop-again c = let l = c .before .before .loop .inv in (omega arith, l .1, l .2, l .3 ∙ earlier-turn _ _ _ (c .before .loop-test .taken) (c .if1 .left))
+
+returns-2 : tie.Need-returns-2 Inv-loop μ-loop
+returns-2 c = sym (c .before .loop .inv .3 ∙ earlier-none _ _ _ (c .loop-test .left))
+
+pub earlier-spec : {M : Type 1} → statement M
+earlier-spec =
+    tie.close
+    (tie.spec
+    Inv-loop
+    μ-loop
+    loop-holds
+    sub-j
+    mul-if1
+    array-read-if1
+    returns
+    loop-less
+    loop-again
+    returns-2)

@@ -1,0 +1,87 @@
+-- `trial::checks::offers` meets its contract. The loop's invariant: the first refusal among all offers is the first from offer i on.
+use mathlib.Core.Path.{_≡_, sym, _∙_}
+use mathlib.Core.List.{[]}
+use Prim.Native.Nat.{_≤_, _-_}
+use native.Mathlib.Omega.{arith}
+use lib.ListN.{length, take}
+use borrow.Author.Needs.{needs}
+use Rattle.stepdown.specs.Refusals.{firstRefusal}
+use Rattle.trial.specs.Refusals.{offerChecks}
+use Rattle.trial.proofs.Conditions.{offersFrom, offers-start, offers-refused, offers-turn, offers-none}
+use Rattle.trial.proofs.checks.offers.Statement.{statement}
+use Rattle.trial.proofs.checks.offers.Tie as tie
+
+abbrev Inv-loop : tie.InvT-loop
+Inv-loop n codes digits i₀ i =
+    (i ≤ n) × (n ≤ 16) × (n ≤ length codes) × (n ≤ length digits) × (firstRefusal (offerChecks [] (take n codes) (take n digits)) ≡ offersFrom i n codes digits)
+
+abbrev μ-loop : tie.MeasureT-loop
+μ-loop n codes digits i₀ i = n - i
+
+loop-holds : tie.Need-loop-holds Inv-loop μ-loop
+loop-holds c = (omega arith, omega arith, omega arith, omega arith, offers-start _ _ _ 0)
+
+mul-code : tie.Need-mul-code Inv-loop μ-loop
+mul-code c = search needs
+
+array-read-code : tie.Need-array-read-code Inv-loop μ-loop
+array-read-code c = search needs
+
+array-read-bad-digits : tie.Need-array-read-bad-digits Inv-loop μ-loop
+array-read-bad-digits c = search needs
+
+bad-digits-requires : tie.Need-bad-digits-requires Inv-loop μ-loop
+bad-digits-requires c κs = search needs
+
+earlier-requires : tie.Need-earlier-requires Inv-loop μ-loop
+earlier-requires c κs = search needs
+
+first-of-requires : tie.Need-first-of-requires Inv-loop μ-loop
+first-of-requires c κs = search needs
+
+returns : tie.Need-returns Inv-loop μ-loop
+returns c =
+    let q = c .before .before in
+    let d = q .before in
+    let l = d .before .before .loop .inv in
+    sym (l .4 ∙ offers-refused _ _ _ _ (d .before .loop-test .taken) (l .2) (l .3) _ _ _ (d .bad-digits .ensures) (q .earlier .ensures) (c .before .first-of .ensures) (c .if1 .taken))
+
+add-i : tie.Need-add-i Inv-loop μ-loop
+add-i c = search needs
+
+loop-less : tie.Need-loop-less Inv-loop μ-loop
+loop-less c = search needs
+
+loop-again : tie.Need-loop-again Inv-loop μ-loop
+loop-again c =
+    let q = c .before .before in
+    let d = q .before in
+    let l = d .before .before .loop .inv in (
+      omega arith,
+      l .1,
+      l .2,
+      l .3,
+      l .4 ∙ offers-turn _ _ _ _ (d .before .loop-test .taken) (l .2) (l .3) _ _ _ (d .bad-digits .ensures) (q .earlier .ensures) (c .before .first-of .ensures) (c .if1 .left),
+    )
+
+returns-2 : tie.Need-returns-2 Inv-loop μ-loop
+returns-2 c = let l = c .before .loop .inv in sym (l .4 ∙ offers-none _ _ _ _ (c .loop-test .left) (l .0))
+
+pub offers-spec : {M : Type 1} → statement M
+offers-spec =
+    tie.close
+    (tie.spec
+    Inv-loop
+    μ-loop
+    loop-holds
+    mul-code
+    array-read-code
+    array-read-bad-digits
+    bad-digits-requires
+    earlier-requires
+    first-of-requires
+    returns
+    add-i
+    loop-less
+    loop-again
+    returns-2)

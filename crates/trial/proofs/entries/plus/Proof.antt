@@ -1,0 +1,21 @@
+-- `trial::entries::plus` meets its contract.
+use lib.IntN.{_+ℤ_}
+use Rattle.trial.proofs.Sums.{abs-add}
+use Rattle.trial.proofs.Places.{cast-fits, op-fits, op-is, op-below}
+use Rattle.trial.proofs.entries.plus.Statement.{statement}
+use Rattle.trial.proofs.entries.plus.Tie as tie
+
+cast-result : tie.Need-cast-result
+cast-result c = cast-fits _+ℤ_ abs-add (c .args .sum) (c .args .d) (c .fits .sum) (c .fits .d) (c .pre)
+
+add-result : tie.Need-add-result
+add-result c = op-fits _+ℤ_ abs-add (c .args .sum) (c .args .d) (c .fits .sum) (c .fits .d) (c .pre)
+
+returns : tie.Need-returns
+returns c = (
+  op-is _+ℤ_ abs-add (c .args .sum) (c .args .d) (c .fits .sum) (c .fits .d) (c .pre),
+  op-below _+ℤ_ abs-add (c .args .sum) (c .args .d) (c .fits .sum) (c .fits .d) (c .pre),
+)
+
+pub plus-spec : {M : Type 1} → statement M
+plus-spec = tie.close (tie.spec cast-result add-result returns)

@@ -1,0 +1,14 @@
+-- `trial::entries::whole` meets its contract.
+use borrow.Author.Needs.{needs}
+use Rattle.trial.proofs.Places.{float-fits}
+use Rattle.trial.proofs.entries.whole.Statement.{statement}
+use Rattle.trial.proofs.entries.whole.Tie as tie
+
+int-to-float-result : tie.Need-int-to-float-result
+int-to-float-result c = float-fits _ (c .before .fits .n) (c .before .pre)
+
+returns : tie.Need-returns
+returns c = search needs
+
+pub whole-spec : {M : Type 1} → statement M
+whole-spec = tie.close (tie.spec int-to-float-result returns)

@@ -1,0 +1,58 @@
+-- `trial::table` meets its contract: each answer is the first condition of the call's list that holds, and the buffer is what goes with it.
+use native.Mathlib.Omega.{arith}
+use borrow.Author.Needs.{needs}
+use Rattle.trial.proofs.Calls.{total-is, total-most, call-refused, call-known, call-short, call-done}
+use Rattle.trial.proofs.table.Statement.{statement}
+use Rattle.trial.proofs.table.Tie as tie
+
+check-requires : tie.Need-check-requires
+check-requires c κs = search needs
+
+returns : tie.Need-returns
+returns c = call-refused _ _ _ (c .before .check .ensures) (c .if1 .taken)
+
+rows-requires : tie.Need-rows-requires
+rows-requires c κs = let a = c .before .before .before .args in call-known (a .t) (a .out .now) (c .before .check .result) (c .before .check .ensures) (c .if1 .left) .pairs-most
+
+mul-total : tie.Need-mul-total
+mul-total c =
+    let r = c .before in
+    let a = r .before .before .before .before .args in
+    let k = call-known (a .t) (a .out .now) (r .before .before .check .result) (r .before .before .check .ensures) (r .before .if1 .left) in
+    let m = total-most (a .t) (r .rows .result) (r .rows .ensures) (k .pairs-most) (k .offers-most) in
+    omega arith
+
+returns-2 : tie.Need-returns-2
+returns-2 c =
+    let r = c .before .before in
+    call-short _ _ _ (r .before .before .check .ensures) (r .before .if1 .left) _ (total-is _ _ (r .rows .ensures)) (c .if2 .taken)
+
+fill-requires : tie.Need-fill-requires
+fill-requires c κs =
+    let r = c .before .before .before in
+    let a = r .before .before .before .before .args in
+    let k = call-known (a .t) (a .out .now) (r .before .before .check .result) (r .before .before .check .ensures) (r .before .if1 .left) in
+    (k .offers-some, k .offers-most, k .pairs-most, total-is (a .t) (r .rows .result) (r .rows .ensures), c .before .if2 .left)
+
+same-length : tie.Need-same-length
+same-length c = search needs
+
+returns-3 : tie.Need-returns-3
+returns-3 c =
+    let f = c .before .before in
+    let e = f .before .before in
+    let r = e .before .before in
+    call-done _ _ _ (r .before .before .check .ensures) (r .before .if1 .left) _ (total-is _ _ (r .rows .ensures)) (e .if2 .left) _ (f .fill .ensures)
+
+pub table-spec : {M : Type 1} → statement M
+table-spec =
+    tie.close
+    (tie.spec
+    check-requires
+    returns
+    rows-requires
+    mul-total
+    returns-2
+    fill-requires
+    same-length
+    returns-3)
