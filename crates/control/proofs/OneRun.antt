@@ -18,7 +18,8 @@ use Rattle.order.proofs.Counts.{countBelow-le, countBelow-list}
 use Rattle.select.proofs.Ranks.{above, Finite}
 use Rattle.stepdown.specs.Columns.{Columns, size, _∪_, _∩_, _∖_, within, over, choose, inSet}
 use Rattle.stepdown.specs.Method.{kMax, criticalValue, putBack}
-use Rattle.stepdown.specs.Runs.{rejectedSet, barOf, newly, after, recordOf, Step, stepsFrom, stepsOf, verdictFrom, verdictOf}
+use Rattle.stepdown.specs.Runs.{rejectedSet, barOf, newly, after, recordOf, stepsFrom, stepsOf, verdictFrom, verdictOf}
+use Rattle.stepdown.specs.declared.Step.{Step}
 use Rattle.stepdown.specs.declared.Run.{Run}
 use Rattle.stepdown.specs.declared.Verdict.the-variants.{Rejected}
 use Rattle.stepdown.proofs.Sets.{has, has-length, _⊆_, ⊆-by, ⊆-at, ⊆-length, size-mono, length-∪, length-∩, length-∖, has-∪, has-∩, has-∖, choose-reaches, size-test}

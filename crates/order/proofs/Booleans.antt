@@ -2,9 +2,9 @@
 use Prim.Native.Nat.{ℕ, _≤_, _<_}
 use native.Mathlib.Omega.{arith}
 use native.Mathlib.Decide.{decLt}
-use mathlib.Core.Path.{_≡_, refl, sym, subst, _∙_}
+use mathlib.Core.Path.{_≡_, refl, sym, ap, subst, _∙_}
 use mathlib.Core.Logic.{_↔_}
-use mathlib.Core.Bool.{Bool, true, false, not, _&&_, _||_}
+use mathlib.Core.Bool.{Bool, true, false, not, cond, _&&_, _||_}
 use lib.Dec.{T, ltb, leb}
 use borrow.Author.Tests.{lt-ltb, le-ltb, le-leb, lt-leb}
 
@@ -71,3 +71,25 @@ leb-not a b = go (decLt b a)
     go : Dec (b < a) → leb a b ≡ not (ltb b a)
     go (yes g) = rw (lt-leb a b g, lt-ltb b a g)
     go (no g) = rw (le-leb a b (omega (arith, g)), le-ltb b a (omega (arith, g)))
+
+-- ---- conditions that are judged one after the other
+
+-- of several joined by "or", the first that holds decides, and one that does not hold is passed
+pub or-holds : (a b : Bool) → a ≡ true → true ≡ (a || b)
+or-holds a b h = ap (λ (x : Bool). x || b) (sym h)
+
+pub or-passes : (a b r : Bool) → a ≡ false → r ≡ b → r ≡ (a || b)
+or-passes a b r h e = e ∙ ap (λ (x : Bool). x || b) (sym h)
+
+-- of several with numbers likewise
+pub holds : (b : Bool) (n r : ℕ) → b ≡ true → n ≡ cond b n r
+holds b n r h = ap (λ (x : Bool). cond x n r) (sym h)
+
+pub passes : (b : Bool) (n r x : ℕ) → b ≡ false → x ≡ r → x ≡ cond b n r
+passes b n r x h e = e ∙ ap (λ (c : Bool). cond c n r) (sym h)
+
+pub not-yes : (b : Bool) → b ≡ false → not b ≡ true
+not-yes b h = ap not h
+
+pub not-no : (b : Bool) → b ≡ true → not b ≡ false
+not-no b h = ap not h

@@ -11,7 +11,8 @@ use lib.Ieee.{Float}
 use Rattle.order.specs.Counting.{bit, count}
 use Rattle.stepdown.specs.Tables.{rowsOf}
 use Rattle.stepdown.specs.Columns.{Columns, size, _∪_, _∩_, _∖_, over}
-use Rattle.stepdown.specs.Runs.{begun, rejectedSet, barOf, newly, after, recordOf, Step, stepsFrom, stepsOf}
+use Rattle.stepdown.specs.Runs.{begun, rejectedSet, barOf, newly, after, recordOf, stepsFrom, stepsOf}
+use Rattle.stepdown.specs.declared.Step.{Step}
 use Rattle.stepdown.specs.Refusals.{tableRefusal}
 use Rattle.stepdown.specs.declared.Run.{Run}
 use Rattle.stepdown.proofs.Sets.{has}

@@ -19,7 +19,8 @@ use Rattle.stepdown.specs.Tables.{rowsOf}
 use Rattle.stepdown.specs.Refusals.{tableRefusal}
 use Rattle.stepdown.specs.Columns.{Columns, size, _∪_, _∩_, _∖_, choose}
 use Rattle.stepdown.specs.Method.{criticalValue, putBack}
-use Rattle.stepdown.specs.Runs.{begun, rejectedSet, barOf, newly, after, recordOf, Step, stepsFrom, stepsOf}
+use Rattle.stepdown.specs.Runs.{begun, rejectedSet, barOf, newly, after, recordOf, stepsFrom, stepsOf}
+use Rattle.stepdown.specs.declared.Step.{Step}
 use Rattle.stepdown.specs.declared.Run.{Run}
 use Rattle.stepdown.proofs.Sets.{has, _⊆_, none, more, ⊆-by, ⊆-at, ⊆-length, length-∪, length-∩, length-∖, has-∪, has-∩, has-∖, size-mono, choose-reaches, choose-sound, choose-some}
 use Rattle.stepdown.proofs.Critical.{Sound, criticalValue-mono, putBack-reaches, putBack-under}

@@ -1,7 +1,7 @@
 -- The work buffer while a critical value is computed.
 --   part-fits, part-row     row g of a table is the part of it from g * cols on
 --   fill-turn, fill-end     the first g places hold the first g rows' k-max values
-use Prim.Native.Nat.{ℕ, zero, suc, _+_, _-_, _*_, _≤_, _<_}
+use Prim.Native.Nat.{ℕ, zero, suc, _+_, _-_, _*_, _^_, _≤_, _<_}
 use native.Mathlib.Omega.{arith}
 use native.Mathlib.Numerals.{add-one}
 use native.Mathlib.Nat.{suc-mul, mul-le-mul-right, add-sub-cancel-left}
@@ -11,6 +11,7 @@ use mathlib.Core.List.{List, [], _∷_, _++_, map, append-assoc}
 use lib.ListN.{length, getD, take, drop, set, length-map, length-take, length-drop, length-append}
 use lib.Seq.{take-suc, drop-cons, set-at, take-all, length-take-le, take-at, drop-at}
 use lib.Dec.{T}
+use lib.Pow.{pow-mono}
 use lib.Ieee.{Float, nan}
 use Rattle.order.specs.Order.{finite}
 use Rattle.order.specs.Counting.{all}
@@ -122,3 +123,11 @@ module _ (t : List Float) (rows cols k e set : ℕ) (r : Ready t rows cols k) (f
 
   pub front-rank : T (all finite (take rows w)) × (0 < rows - e) × (rows - e ≤ length (take rows w))
   front-rank = (front-finite, omega arith, omega (arith, front-length))
+
+-- a row has at most 32 values
+pub part-narrow : (t : List Float) (rows cols k g : ℕ) (r : Ready t rows cols k) → g < rows → length (take (g * cols + cols - g * cols) (drop (g * cols) t)) ≤ 32
+part-narrow t rows cols k g r h = omega (arith, part-length t rows cols k g r h, r .cols-most)
+
+-- a set of at most 32 columns fits a u32
+pub mask-fits : {n s : ℕ} → n ≤ 32 → s < 2 ^ n → s < 2 ^ 32
+mask-fits h l = let p = pow-mono h in omega (arith, p)

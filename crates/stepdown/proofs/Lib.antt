@@ -6,6 +6,11 @@ pub mod Topmost
 pub mod Filling
 pub mod Walking
 pub mod Largest
+pub mod Scanning
+pub mod Clearing
+pub mod Spoiling
+pub mod Advancing
+pub mod Calls
 pub mod Tabulate
 pub mod Rows
 pub mod Steps

@@ -1,7 +1,7 @@
 -- Laws of the rows of a table.
-use Prim.Native.Nat.{ℕ, zero, suc, _+_, _-_, _*_, _≤_, _<_}
+use Prim.Native.Nat.{ℕ, zero, suc, _+_, _-_, _*_, _^_, _≤_, _<_}
 use native.Mathlib.Omega.{arith}
-use native.Mathlib.Nat.{suc-mul, zero-mul}
+use native.Mathlib.Nat.{suc-mul, zero-mul, mul-le-mul-right}
 use mathlib.Core.Path.{_≡_, refl, sym, ap, _∙_, subst}
 use mathlib.Core.Bool.{Bool, _&&_}
 use mathlib.Core.List.{List, [], _∷_}
@@ -49,3 +49,7 @@ rowsOf-sound (suc m) n xs h f =
     and-both (soundRow n (take n xs)) (all (soundRow n) (rowsOf m n (drop n xs)))
     (and-both (eqb (length (take n xs)) n) (all finite (take n xs)) (subst (λ (i : ℕ). T (eqb i n)) (sym (length-take-le n xs (omega (arith, suc-mul m n)))) (eqb-refl n)) (all-take finite n xs f))
     (rowsOf-sound m n (drop n xs) (simp length-drop (omega (arith, suc-mul m n))) (all-drop finite n xs f))
+
+-- a table's size fits a usize
+pub size-fits : (rows columns : ℕ) → rows ≤ 4096 → columns ≤ 32 → rows * columns < 2 ^ 64
+size-fits rows columns h k = omega (arith, mul-le-mul-right columns h)

@@ -21,7 +21,8 @@ use Rattle.select.proofs.Ranks.{Finite}
 use Rattle.stepdown.specs.Tables.{allowance}
 use Rattle.stepdown.specs.Columns.{Columns, size, _∪_, _∩_, _∖_, over, inSet, columnsOf, maskOf}
 use Rattle.stepdown.specs.Method.{criticalValue, putBack}
-use Rattle.stepdown.specs.Runs.{rejectedSet, bar, barOf, newly, finished, next, after, recordOf, Step, stepsFrom}
+use Rattle.stepdown.specs.Runs.{rejectedSet, bar, barOf, newly, finished, next, after, recordOf, stepsFrom}
+use Rattle.stepdown.specs.declared.Step.{Step}
 use Rattle.stepdown.specs.declared.Run.{Run}
 use Rattle.stepdown.proofs.Sets.{has, length-∪, length-∩, length-∖, has-∩, has-∖}
 use Rattle.stepdown.proofs.Masks.{columnsOf-length, columnsOf-maskOf, has-columnsOf}

@@ -5,18 +5,26 @@
 --   larger b c           the larger of two values, the first of equals
 --   bestOf b cs          the largest of b and all members
 --   every cols           the mask of all columns
+--   stops columns k new rejected    whether a step ends the run, by masks of what it rejected and of all that is rejected
 --   Ready t rows cols k  a table that has passed its checks
 --   Walk ..              what holds at each call of the put-back walk
+--   Going t r            a table and a run that have passed the checks of a step
+--   advanced t r         the run after its next step, and its record
 use Prim.Native.Nat.{ℕ, zero, suc, _+_, _-_, _*_, _^_, _≤_, _<_}
 use mathlib.Core.Path.{_≡_}
-use mathlib.Core.Bool.{Bool, true, false, cond, _&&_}
+use mathlib.Core.Bool.{Bool, true, false, cond, _&&_, _||_}
 use mathlib.Core.List.{List, [], _∷_}
-use lib.Dec.{T, eqb}
+use lib.Dec.{T, eqb, ltb}
 use lib.ListN.{length, getD}
 use lib.Ieee.{Float}
 use Rattle.order.specs.Order.{finite, smaller}
 use Rattle.order.specs.Counting.{all}
 use Rattle.stepdown.specs.Columns.{size, columnsOf}
+use Rattle.stepdown.specs.Tables.{rowsOf}
+use Rattle.stepdown.specs.Runs.{rejectedSet, after, recordOf}
+use Rattle.stepdown.specs.Answers.{everyColumn}
+use Rattle.stepdown.specs.declared.Run.{Run}
+use Rattle.stepdown.specs.declared.Step.{Step}
 use Rattle.stepdown.specs.declared.kmax.Top.{Top}
 
 abbrev pub between : Float → Float → Float → Bool
@@ -54,6 +62,10 @@ bestOf b (c ∷ cs) = bestOf (larger b c) cs
 abbrev pub every : ℕ → ℕ
 every cols = 2 ^ cols - 1
 
+unfoldable pub stops : ℕ → ℕ → ℕ → ℕ → Bool
+unfolding size columnsOf
+stops columns k new rejected = let n = size (columnsOf columns rejected) in eqb new 0 || (ltb n k || eqb n columns)
+
 -- ---- what private functions ask for
 
 pub record Ready (t : List Float) (rows cols k : ℕ) : Type 0 where
@@ -71,3 +83,22 @@ pub record Walk (cols k set rest from left : ℕ) : Type 0 where
   pub rests : rest < 2 ^ (cols - from)
   pub apart : (j : ℕ) → T (getD (columnsOf (cols - from) rest) j false) → getD (columnsOf cols set) (from + j) false ≡ false
   pub many : k ≤ size (columnsOf cols set) + left
+
+pub record Going (t : List Float) (r : Run) : Type 0 where
+  pub ready : Ready t (r .rows) (r .columns) (r .k)
+  pub rows-some : 0 < r .rows
+  pub held : r .k ≤ r .columns
+  pub proper : r .a < r .b
+  pub b-most : r .b ≤ 16383
+  pub seen : r .observed < r .rows
+  pub inside : r .rejected < 2 ^ (r .columns)
+  pub steps-most : r .steps ≤ 32
+  pub fresh : r .steps ≡ 0 → r .rejected ≡ 0
+  pub many : 0 < r .steps → r .k ≤ size (rejectedSet r)
+  pub some : size (rejectedSet r) < r .columns
+
+unfoldable pub advanced : List Float → Run → Step
+unfolding after recordOf rowsOf
+advanced t r =
+    let X = rowsOf (r .rows) (r .columns) t in
+    record { run = after (everyColumn (r .columns)) X r; mark = recordOf (everyColumn (r .columns)) X r }

@@ -4,5 +4,6 @@ pub mod Method
 pub mod Runs
 pub mod Refusals
 pub mod Buffers
+pub mod Answers
 pub mod Internal
 pub mod Examples

@@ -7,7 +7,7 @@
 --   tableRefusal            of a table: 4, 3, 9, 10, 11
 --   tableRunRefusal         of a full run of a table, with a lent work buffer: the same, then 12
 --   beginRefusal            of beginning a run: 4, 3, 10
---   spoiled r               the condition of 14
+--   badFigures, badProgress, spoiled r      the condition of 14
 --   stepRefusal             of a step: 14, 13, 9, 11, 12
 use Prim.Native.Nat.{ℕ, _*_, _^_}
 use mathlib.Core.Bool.{Bool, cond, not, _&&_, _||_}
@@ -75,28 +75,26 @@ beginRefusal rows columns k a b observed =
 -- ---- 14: a run that is spoiled, clause by clause
 
 -- its own figures break 3, 4 or 10
-abbrev badFigures : Run → Bool
+unfoldable pub badFigures : Run → Bool
 unfolding badShape badLevel
 badFigures r = badShape (r .rows) (r .columns) (r .k) || (badLevel (r .a) (r .b) || leb (r .rows) (r .observed))
 
--- a rejected offer that the table hasn't, by the run's own columns; more than 32 steps
-abbrev badSet : Run → Bool
-badSet r = leb (2 ^ (r .columns)) (r .rejected) || ltb 32 (r .steps)
-
--- rejections at step 0, or ended at step 0
-abbrev badStart : Run → Bool
-badStart r = eqb (r .steps) 0 && (not (eqb (r .rejected) 0) || r .ended)
-
--- not ended with fewer rejections than steps; not ended after step 1 or later with fewer than k rejected or none left
-abbrev badGoing : Run → Bool
+-- a rejected offer that the table hasn't, by the run's own columns; more than 32 steps;
+-- rejections at step 0, or ended at step 0; not ended with fewer rejections than steps;
+-- not ended after step 1 or later with fewer than k rejected or none left
+unfoldable pub badProgress : Run → Bool
 unfolding size rejectedSet
-badGoing r =
+badProgress r =
     let n = size (rejectedSet r) in
-    not (r .ended) && (ltb n (r .steps) || (ltb 0 (r .steps) && (ltb n (r .k) || leb (r .columns) n)))
+    leb (2 ^ (r .columns)) (r .rejected)
+    || (ltb 32 (r .steps)
+    || ((eqb (r .steps) 0 && (not (eqb (r .rejected) 0) || r .ended))
+    || ((not (r .ended) && ltb n (r .steps))
+    || (not (r .ended) && (ltb 0 (r .steps) && (ltb n (r .k) || leb (r .columns) n))))))
 
 unfoldable pub spoiled : Run → Bool
-unfolding badFigures badGoing
-spoiled r = badFigures r || (badSet r || (badStart r || badGoing r))
+unfolding badFigures badProgress
+spoiled r = badFigures r || badProgress r
 
 -- ---- a step
 

@@ -23,6 +23,7 @@ use Rattle.stepdown.specs.Columns.{Columns, size, _∪_, _∩_, _∖_, o
 use Rattle.stepdown.specs.Method.{criticalValue, putBack, atLeast}
 use Rattle.stepdown.specs.declared.Run.{Run}
 use Rattle.stepdown.specs.declared.Record.{Record}
+use Rattle.stepdown.specs.declared.Step.{Step}
 use Rattle.stepdown.specs.declared.Verdict.{Verdict}
 use Rattle.stepdown.specs.declared.Verdict.the-variants.{Rejected, Kept}
 
@@ -69,11 +70,6 @@ unfolding barOf
 recordOf live X r = record { step = r .steps + 1; critical = barOf live X r }
 
 -- ---- the full run
-
--- one step: the run after it, and its record
-pub record Step : Type 0 where
-  pub run : Run
-  pub mark : Record
 
 unfoldable pub stepsFrom : ℕ → Bool → Columns → List (List Float) → Run → List Step
 unfolding after recordOf

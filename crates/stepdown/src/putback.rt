@@ -1,4 +1,5 @@
 // The critical value of a later step: the largest c(A with I) over the subsets I of the rejected columns with k - 1 members.
+use super::bits;
 use super::quantile;
 ghost use mathlib.Core.Path.{_≡_};
 ghost use mathlib.Core.Bool.{true, false};
@@ -9,13 +10,6 @@ ghost use Rattle.stepdown.specs.Tables.{rowsOf};
 ghost use Rattle.stepdown.specs.Columns.{size, columnsOf, choose, _∪_};
 ghost use Rattle.stepdown.specs.Method.{criticalValue, putBack};
 ghost use Rattle.stepdown.specs.Internal.{Ready, Walk, larger, bestOf};
-
-pub(crate) fn bit(j: usize) -> u32
-    requires { ⌜ j < 32 ⌝ }
-    ensures { λ r. ⌜ r ≡ 2 ^ j ⌝ }
-{
-    1u32 << j
-}
 
 // The largest of `best` and the critical values of `set` with each choice of `left` columns among those of `rest`, which start at column `from`:
 // one column is chosen and then, with one fewer to choose, later ones.
@@ -34,7 +28,7 @@ fn walk(table: &[f64], work: &mut [f64], rows: usize, cols: usize, k: usize, e: 
         return best;
     }
     if rest % 2 == 1 {
-        let chosen = set + bit(from);
+        let chosen = set + bits::bit(from);
         let b = walk(table, work, rows, cols, k, e, chosen, rest / 2, from + 1, left - 1, best);
         return walk(table, work, rows, cols, k, e, set, rest / 2, from + 1, left, b);
     }

@@ -10,7 +10,7 @@ use Rattle.stepdown.proofs.Walking.{leaf-held, leaf-above, leaf-below, 
 use Rattle.stepdown.proofs.putback.walk.Reads as walk
 use Rattle.stepdown.proofs.putback.walk.Kinds as walk-kinds
 use Rattle.stepdown.proofs.putback.+walk.Lts-walk as walk-lts
-use Rattle.stepdown.proofs.putback.bit.Reads as bit-reads
+use Rattle.stepdown.proofs.bits.bit.Reads as bit-reads
 use Rattle.stepdown.proofs.quantile.critical.Reads as critical-reads
 use Rattle.stepdown.proofs.putback.+walk.{statement}
 use Rattle.stepdown.proofs.putback.+walk.Tie.{close}

@@ -4,10 +4,10 @@ use native.Mathlib.Nat.{one-mul, mod-eq-of-lt}
 use mathlib.Core.Path.{_≡_}
 use Prim.Native.Nat.{ℕ, _<_, _*_, _%_, _^_}
 use borrow.Author.Needs.{needs}
-use Rattle.stepdown.proofs.putback.bit.Statement.{statement}
-use Rattle.stepdown.proofs.putback.bit.Tie as tie
-use Rattle.stepdown.proofs.putback.bit.Reads as reads
-use Rattle.stepdown.proofs.putback.bit.Lts as lts
+use Rattle.stepdown.proofs.bits.bit.Statement.{statement}
+use Rattle.stepdown.proofs.bits.bit.Tie as tie
+use Rattle.stepdown.proofs.bits.bit.Reads as reads
+use Rattle.stepdown.proofs.bits.bit.Lts as lts
 
 bit-is : (j : ℕ) → j < 32 → 1 * 2 ^ j % 4294967296 ≡ 2 ^ j
 bit-is j h = rw one-mul (mod-eq-of-lt {m = 2 ^ 32} (pow-lt h))

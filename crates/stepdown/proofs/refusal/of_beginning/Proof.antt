@@ -1,0 +1,39 @@
+-- `of_beginning` meets its contract.
+use Rattle.stepdown.specs.Refusals.{firstRefusal, outside, badShape, badLevel, badValue, tableChecks, tableRunRefusal, beginRefusal, badFigures, badProgress, spoiled, stepRefusal}
+use Rattle.order.proofs.Booleans.{or-holds, or-passes, holds, passes, not-yes, not-no}
+use borrow.Author.Tests.{lt-ltb, le-ltb, le-leb, lt-leb, eq-eqb, ne-eqb}
+use mathlib.Core.Path.{_≡_, refl, sym, ap, _∙_}
+use borrow.Author.Needs.{needs}
+use Rattle.stepdown.proofs.refusal.of_beginning.Statement.{statement}
+use Rattle.stepdown.proofs.refusal.of_beginning.Tie as tie
+use Rattle.stepdown.proofs.refusal.of_beginning.Reads as reads
+use Rattle.stepdown.proofs.refusal.of_beginning.Lts as lts
+use Rattle.stepdown.proofs.refusal.bad_level.Reads as bad-level-reads
+use Rattle.stepdown.proofs.refusal.bad_shape.Reads as bad-shape-reads
+
+bad-shape-requires : tie.Need-bad-shape-requires
+bad-shape-requires c κs = search needs
+
+returns : tie.Need-returns
+unfolding beginRefusal
+returns c = holds _ _ _ (sym (c .before .bad-shape .ensures) ∙ c .if1 .taken)
+
+bad-level-requires : tie.Need-bad-level-requires
+bad-level-requires c κs = search needs
+
+returns-2 : tie.Need-returns-2
+unfolding beginRefusal
+returns-2 c = passes _ _ _ _ (sym (c .before .before .before .bad-shape .ensures) ∙ c .before .before .if1 .left) (holds _ _ _ (sym (c .before .bad-level .ensures) ∙ c .if2 .taken))
+
+returns-3 : tie.Need-returns-3
+unfolding beginRefusal
+returns-3 c = passes _ _ _ _ (sym (c .before .before .before .before .bad-shape .ensures) ∙ c .before .before .before .if1 .left) (passes _ _ _ _ (sym (c .before .before .bad-level .ensures) ∙ c .before .if2 .left) (holds _ _ _ (le-leb _ _ (c .if3 .taken))))
+
+returns-4 : tie.Need-returns-4
+unfolding beginRefusal
+returns-4 c = passes _ _ _ _ (sym (c .before .before .before .before .bad-shape .ensures) ∙ c .before .before .before .if1 .left) (passes _ _ _ _ (sym (c .before .before .bad-level .ensures) ∙ c .before .if2 .left) (passes _ _ _ _ (lt-leb _ _ (c .if3 .left)) (refl)))
+
+pub of-beginning-spec : {M : Type 1} → statement M
+of-beginning-spec =
+    tie.close
+    (tie.spec bad-shape-requires returns bad-level-requires returns-2 returns-3 returns-4)

@@ -1,0 +1,63 @@
+-- `of_step` meets its contract.
+use Rattle.stepdown.proofs.Rows.{size-fits}
+use Rattle.stepdown.specs.Refusals.{stepRefusal}
+use mathlib.Core.Bool.{not}
+use Rattle.order.proofs.Booleans.{holds, passes, not-yes, not-no}
+use borrow.Author.Tests.{lt-ltb, le-ltb, le-leb, lt-leb, eq-eqb, ne-eqb}
+use Rattle.stepdown.proofs.Spoiling.{set-beyond, too-many-steps, rejected-at-start, ended-at-start, ended-later, few-for-steps, few-for-k, none-left, figures, figures-bad, figures-good, spoiled-bad, spoiled-else, spoiled-none}
+use native.Mathlib.Omega.{arith}
+use mathlib.Core.Path.{_≡_, refl, sym, ap, _∙_}
+use borrow.Author.Needs.{needs}
+use Rattle.stepdown.proofs.refusal.of_step.Statement.{statement}
+use Rattle.stepdown.proofs.refusal.of_step.Tie as tie
+use Rattle.stepdown.proofs.refusal.of_step.Reads as reads
+use Rattle.stepdown.proofs.refusal.of_step.Lts as lts
+use Rattle.order.proofs.all_finite.Reads as all-finite-reads
+use Rattle.stepdown.proofs.refusal.spoiled.Reads as spoiled-reads
+
+spoiled-requires : tie.Need-spoiled-requires
+spoiled-requires c κs = search needs
+
+returns : tie.Need-returns
+unfolding stepRefusal
+returns c = holds _ _ _ (sym (c .before .spoiled .ensures) ∙ c .if1 .taken)
+
+returns-2 : tie.Need-returns-2
+unfolding stepRefusal
+returns-2 c = passes _ _ _ _ (sym (c .before .before .spoiled .ensures) ∙ c .before .if1 .left) (holds _ _ _ (c .if2 .taken))
+
+mul-if3 : tie.Need-mul-if3
+mul-if3 c = let f = figures _ (spoiled-none _ (sym (c .before .before .before .spoiled .ensures) ∙ c .before .before .if1 .left) .0) .shaped in record { fits = size-fits _ _ (f .rows-most) (f .columns-most) }
+
+returns-3 : tie.Need-returns-3
+unfolding stepRefusal
+returns-3 c = passes _ _ _ _ (sym (c .before .before .before .before .spoiled .ensures) ∙ c .before .before .before .if1 .left) (passes _ _ _ _ (c .before .before .if2 .left) (holds _ _ _ (not-yes _ (ne-eqb _ _ (c .if3 .taken)))))
+
+all-finite-requires : tie.Need-all-finite-requires
+all-finite-requires c κs = search needs
+
+returns-4 : tie.Need-returns-4
+unfolding stepRefusal
+returns-4 c = passes _ _ _ _ (sym (c .before .before .before .before .before .before .spoiled .ensures) ∙ c .before .before .before .before .before .if1 .left) (passes _ _ _ _ (c .before .before .before .before .if2 .left) (passes _ _ _ _ (not-no _ (eq-eqb _ _ (c .before .before .if3 .left))) (holds _ _ _ (ap not (sym (c .before .all-finite .ensures)) ∙ c .if4 .taken))))
+
+returns-5 : tie.Need-returns-5
+unfolding stepRefusal
+returns-5 c = passes _ _ _ _ (sym (c .before .before .before .before .before .before .before .before .spoiled .ensures) ∙ c .before .before .before .before .before .before .before .if1 .left) (passes _ _ _ _ (c .before .before .before .before .before .before .if2 .left) (passes _ _ _ _ (not-no _ (eq-eqb _ _ (c .before .before .before .before .if3 .left))) (passes _ _ _ _ (ap not (sym (c .before .before .before .all-finite .ensures)) ∙ c .before .before .if4 .left) (holds _ _ _ (lt-ltb _ _ (c .if5 .taken))))))
+
+returns-6 : tie.Need-returns-6
+unfolding stepRefusal
+returns-6 c = passes _ _ _ _ (sym (c .before .before .before .before .before .before .before .before .spoiled .ensures) ∙ c .before .before .before .before .before .before .before .if1 .left) (passes _ _ _ _ (c .before .before .before .before .before .before .if2 .left) (passes _ _ _ _ (not-no _ (eq-eqb _ _ (c .before .before .before .before .if3 .left))) (passes _ _ _ _ (ap not (sym (c .before .before .before .all-finite .ensures)) ∙ c .before .before .if4 .left) (passes _ _ _ _ (le-ltb _ _ (c .if5 .left)) (refl)))))
+
+pub of-step-spec : {M : Type 1} → statement M
+of-step-spec =
+    tie.close
+    (tie.spec
+    spoiled-requires
+    returns
+    returns-2
+    mul-if3
+    returns-3
+    all-finite-requires
+    returns-4
+    returns-5
+    returns-6)
