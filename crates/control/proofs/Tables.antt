@@ -5,7 +5,6 @@ use mathlib.Core.Path.{_≡_, refl, sym, ap, _∙_, subst}
 use mathlib.Core.Bool.{Bool, true, false}
 use mathlib.Core.List.{List, [], _∷_}
 use lib.ListN.{length, getD, take, drop, replicate, length-replicate}
-use lib.Seq.{getD-take, getD-drop}
 use lib.Dec.{T}
 use lib.Ieee.{Float, nan}
 use Rattle.stepdown.specs.Tables.{rowsOf, allowance}
@@ -13,7 +12,7 @@ use Rattle.stepdown.specs.Runs.{begun, tabulate, fullRun, tableRun}
 use Rattle.stepdown.specs.Refusals.{tableRefusal}
 use Rattle.stepdown.proofs.Sets.{has, has-length, _⊆_, ⊆-by, has-all}
 use Rattle.stepdown.proofs.Tabulate.{tabulate-length, tabulate-getD}
-use Rattle.stepdown.proofs.Rows.{rowsOf-length, rowsOf-row, rowsOf-sound}
+use Rattle.stepdown.proofs.Rows.{rowsOf-length, rowsOf-sound, row-entry}
 use Rattle.stepdown.proofs.Critical.{Sound, soundRow, sound-length}
 use Rattle.stepdown.proofs.Accepted.{Shape, Level, Accepted, accepted, allowance-lt}
 use Rattle.order.proofs.Counts.{all-getD}
@@ -29,10 +28,6 @@ in-all n idle = ⊆-by (tabulate n idle) (replicate n true) (tabulate-length n i
 pub table-sound : (t : List Float) (rows columns k a b o : ℕ) → Accepted t rows columns k a b o → Sound columns (rowsOf rows columns t)
 table-sound t rows columns k a b o acc = rowsOf-sound rows columns t (acc .full) (acc .finitely)
 
-row-entry : (t : List Float) (rows columns h j : ℕ) → h < rows → j < columns → getD (getD (rowsOf rows columns t) h []) j nan ≡ entry t columns h j
-unfolding entry
-row-entry t rows columns h j l m = ap (λ (r : List Float). getD r j nan) (rowsOf-row rows columns t h l) ∙ getD-take columns (drop (h * columns) t) j nan m ∙ getD-drop (h * columns) t j nan
-
 module _ (rows columns k a b : ℕ) (t : List Float) (idle : ℕ → Bool) (runs : ℕ → List Float) where
   X : List (List Float)
   X = rowsOf rows columns t
@@ -40,11 +35,15 @@ module _ (rows columns k a b : ℕ) (t : List Float) (idle : ℕ → Bool) (runs
   -- the idle rows of a table that agrees with t on the idle columns
   idle-row : (u : List Float) (o p : ℕ) → Accepted t rows columns k a b o → Accepted u rows columns k a b p → SameOn idle rows columns t u
       → (h : ℕ) → h < rows → Rattle.stepdown.specs.Columns.within (tabulate columns idle) (getD (rowsOf rows columns u) h []) ≡ Rattle.stepdown.specs.Columns.within (tabulate columns idle) (getD (rowsOf rows columns t) h [])
+  unfolding entry
   idle-row u o p acc acc′ same h l =
       within-same (tabulate columns idle) (getD (rowsOf rows columns u) h []) (getD (rowsOf rows columns t) h []) (width u p acc′ ∙ sym (width t o acc))
       (λ j i q. let m : j < columns = omega (arith, width u p acc′) in
-        row-entry u rows columns h j l m ∙ same h j l m (subst (λ (c : Bool). T c) (tabulate-getD columns idle j false m) q) ∙ sym (row-entry t rows columns h j l m))
+        in-entry u h j l m ∙ same h j l m (subst (λ (c : Bool). T c) (tabulate-getD columns idle j false m) q) ∙ sym (in-entry t h j l m))
     where
+      in-entry : (w : List Float) (h j : ℕ) → h < rows → j < columns → getD (getD (rowsOf rows columns w) h []) j nan ≡ entry w columns h j
+      in-entry w h j l m = row-entry w rows columns h j l m
+
       width : (w : List Float) (q : ℕ) → Accepted w rows columns k a b q → length (getD (rowsOf rows columns w) h []) ≡ columns
       width w q ac = sound-length columns (getD (rowsOf rows columns w) h []) (all-getD (soundRow columns) (rowsOf rows columns w) h [] (omega (arith, rowsOf-length rows columns w)) (table-sound w rows columns k a b q ac))
 

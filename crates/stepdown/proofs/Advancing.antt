@@ -29,7 +29,7 @@ use Rattle.stepdown.specs.declared.Step.{Step}
 use Rattle.stepdown.proofs.Sets.{has, has-∖, has-∩, length-∪, size-all}
 use Rattle.stepdown.proofs.Masks.{columnsOf-maskOf, maskOf-columnsOf, maskOf-lt}
 use Rattle.stepdown.proofs.Rows.{rowsOf-length, rowsOf-sound}
-use Rattle.stepdown.proofs.Steps.{Fitting, eOf, seenRow, leftOver, over-length, bar-first, bar-later, rejected-length, seen-length, left-length, newly-is, newly-length}
+use Rattle.stepdown.proofs.Steps.{Fitting, eOf, seenRow, leftOver, over-length, bar-first, bar-later, rejected-length, seen-length, left-length, newly-is, newly-length, after-fitting}
 use Rattle.stepdown.proofs.Critical.{Sound}
 use Rattle.stepdown.proofs.Accepted.{allowance-lt}
 use Rattle.stepdown.proofs.Scanning.{full-columns, full-left}
@@ -244,3 +244,32 @@ module _ (columns k new rejected : ℕ) where
     pub stops-full : k ≤ n → eqb n columns ≡ stops columns k new rejected
     unfolding stops
     stops-full h = or-passes _ _ _ (ne-eqb new 0 f) (or-passes _ _ _ (le-ltb (size (columnsOf columns rejected)) k (omega arith)) (ap (λ (x : ℕ). eqb x columns) e))
+
+-- ---- the run after the step
+
+module _ (t : List Float) (r : Run) (g : Going t r) where
+  pub run-sound : Sound (length (everyColumn (r .columns))) (rowsOf (r .rows) (r .columns) t)
+  unfolding X live
+  run-sound = sound t r g
+
+  pub run-fitting : Fitting (everyColumn (r .columns)) (rowsOf (r .rows) (r .columns) t) r
+  unfolding X live
+  run-fitting = fit t r g
+
+  pub after-inside : after (everyColumn (r .columns)) (rowsOf (r .rows) (r .columns) t) r .rejected < 2 ^ (r .columns)
+  unfolding after next
+  after-inside = subst (λ (n : ℕ). maskOf (rejectedSet r ∪ newly (everyColumn (r .columns)) (rowsOf (r .rows) (r .columns) t) r) < 2 ^ n)
+    (length-∪ (rejectedSet r) (newly (everyColumn (r .columns)) (rowsOf (r .rows) (r .columns) t) r) (rejected-length _ _ r run-sound run-fitting ∙ sym (newly-length _ _ r run-sound run-fitting)) ∙ rejected-length _ _ r run-sound run-fitting ∙ length-replicate (r .columns) true)
+    (maskOf-lt (rejectedSet r ∪ newly (everyColumn (r .columns)) (rowsOf (r .rows) (r .columns) t) r))
+
+  pub after-some : 0 < size (leftOver (everyColumn (r .columns)) (after (everyColumn (r .columns)) (rowsOf (r .rows) (r .columns) t) r)) → size (rejectedSet (after (everyColumn (r .columns)) (rowsOf (r .rows) (r .columns) t) r)) < r .columns
+  after-some p = omega (arith, total)
+    where
+      R′ : Columns
+      R′ = rejectedSet (after (everyColumn (r .columns)) (rowsOf (r .rows) (r .columns) t) r)
+
+      len : length R′ ≡ r .columns
+      len = rejected-length (everyColumn (r .columns)) (rowsOf (r .rows) (r .columns) t) (after (everyColumn (r .columns)) (rowsOf (r .rows) (r .columns) t) r) run-sound (after-fitting _ _ r run-sound run-fitting) ∙ length-replicate (r .columns) true
+
+      total : size (everyColumn (r .columns) ∖ R′) + size R′ ≡ r .columns
+      total = subst (λ (n : ℕ). size (replicate n true ∖ R′) + size R′ ≡ n) len (size-left R′)

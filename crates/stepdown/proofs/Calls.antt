@@ -1,5 +1,6 @@
 -- The public calls: what their checks let by, and what they answer.
 --   step-known       a step that is not refused has a run and a table that can be stepped
+--   table-known      a full run that is not refused begins with such a run
 --   begin-.., step-..    each answer is the definition's
 use Prim.Native.Nat.{ℕ, zero, suc, _+_, _-_, _*_, _^_, _≤_, _<_}
 use native.Mathlib.Omega.{arith}
@@ -9,6 +10,7 @@ use mathlib.Core.Bool.{Bool, true, false, not, cond, _&&_, _||_}
 use mathlib.Core.List.{List, [], _∷_, _++_}
 use lib.ListN.{length, drop, replicate}
 use lib.Dec.{T, ltb, leb, eqb}
+use lib.Pow.{pow-pos}
 use lib.Ieee.{Float}
 use borrow.Author.Tests.{eq-eqb, ne-eqb, lt-ltb, ltb-false, leb-false, eqb-true, not-false}
 use Rattle.order.specs.Order.{finite, plusZero}
@@ -17,7 +19,7 @@ use Rattle.order.proofs.Booleans.{true-T, never}
 use Rattle.stepdown.specs.Tables.{rowsOf}
 use Rattle.stepdown.specs.Columns.{size, columnsOf}
 use Rattle.stepdown.specs.Runs.{begun, rejectedSet, after, recordOf}
-use Rattle.stepdown.specs.Refusals.{Checks, firstRefusal, badShape, badLevel, badValue, beginRefusal, badFigures, badProgress, spoiled, stepRefusal, tooShort}
+use Rattle.stepdown.specs.Refusals.{Checks, firstRefusal, badShape, badLevel, badValue, beginRefusal, badFigures, badProgress, spoiled, stepRefusal, tableChecks, tableRunRefusal}
 use Rattle.stepdown.specs.Buffers.{cleared}
 use Rattle.stepdown.specs.Answers.{everyColumn, beginAnswer, stepAnswer, stepWork}
 use Rattle.stepdown.specs.Internal.{Ready, Going, advanced}
@@ -27,7 +29,7 @@ use Rattle.stepdown.specs.declared.Beginning.{Beginning}
 use Rattle.stepdown.specs.declared.Beginning.the-variants as beginning
 use Rattle.stepdown.specs.declared.StepAnswer.{StepAnswer}
 use Rattle.stepdown.specs.declared.StepAnswer.the-variants as stepping
-use Rattle.stepdown.proofs.Accepted.{NoneHolds, none-holds, or-none, Shape, Level}
+use Rattle.stepdown.proofs.Accepted.{NoneHolds, none-holds, or-none, Shape, shape, Level, level}
 use Rattle.stepdown.proofs.Spoiling.{Figures, figures, spoiled-none}
 
 -- ---- what is known of a run that can be stepped
@@ -108,6 +110,54 @@ module _ (t : List Float) (r : Run) (places : ℕ) (h : stepRefusal t r places �
       room-of : Figures r → Progress r → Dec (0 < r .steps) → size (columnsOf (r .columns) (r .rejected)) < r .columns
       room-of f p (yes q) = p .room q
       room-of f p (no q) = omega (arith, f .shaped .columns-some, ap (λ (s : ℕ). size (columnsOf (r .columns) s)) (p .fresh (omega (arith, q))), empty-size (r .columns))
+
+-- ---- what is known of a table that can be run
+
+module _ (t : List Float) (rows columns k a b observed places : ℕ) (h : tableRunRefusal t rows columns k a b observed places ≡ 0) where
+  conditions : Checks
+  conditions = (badShape rows columns k, 4) ∷ (badLevel a b, 3) ∷ (not (eqb (length t) (rows * columns)), 9) ∷ (leb rows observed, 10) ∷ (badValue t, 11) ∷ (ltb places rows, 12) ∷ []
+
+  clear : NoneHolds conditions
+  unfolding conditions tableRunRefusal tableChecks all
+  clear = none-holds conditions tt h
+
+  pub table-room : rows ≤ places
+  unfolding conditions
+  table-room = ltb-false places rows (clear .1 .1 .1 .1 .1 .0)
+
+  pub table-seen : observed < rows
+  unfolding conditions
+  table-seen = leb-false rows observed (clear .1 .1 .1 .0)
+
+  pub table-ready : Ready t rows columns k
+  unfolding conditions badValue
+  table-ready =
+      let s = shape rows columns k (clear .0) in
+      record
+        { rows-most = s .rows-most
+        ; cols-most = s .columns-most
+        ; full = eqb-true (length t) (rows * columns) (not-false (eqb (length t) (rows * columns)) (clear .1 .1 .0))
+        ; finitely = true-T (all finite t) (not-false (all finite t) (clear .1 .1 .1 .1 .0))
+        ; k-some = s .k-some
+        ; k-most = s .k-most }
+
+  pub table-known : Going t (begun rows columns k a b observed)
+  unfolding conditions rejectedSet
+  table-known =
+      let s = shape rows columns k (clear .0) in
+      let l = level a b (clear .1 .0) in
+      record
+        { ready = table-ready
+        ; rows-some = s .rows-some
+        ; held = s .k-held
+        ; proper = l .proper
+        ; b-most = l .b-most
+        ; seen = table-seen
+        ; inside = pow-pos columns
+        ; steps-most = omega arith
+        ; fresh = λ _. refl
+        ; many = λ p. absurd (omega arith)
+        ; some = omega (arith, s .columns-some, empty-size columns) }
 
 -- ---- beginning
 

@@ -11,6 +11,9 @@ pub mod Clearing
 pub mod Spoiling
 pub mod Advancing
 pub mod Calls
+pub mod Traces
+pub mod Following
+pub mod Finishing
 pub mod Tabulate
 pub mod Rows
 pub mod Steps

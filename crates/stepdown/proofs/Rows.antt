@@ -6,9 +6,9 @@ use mathlib.Core.Path.{_≡_, refl, sym, ap, _∙_, subst}
 use mathlib.Core.Bool.{Bool, _&&_}
 use mathlib.Core.List.{List, [], _∷_}
 use lib.ListN.{length, getD, take, drop, length-drop, length-take}
-use lib.Seq.{length-take-le, drop-drop}
+use lib.Seq.{length-take-le, drop-drop, getD-take, getD-drop}
 use lib.Dec.{T, eqb, eqb-refl}
-use lib.Ieee.{Float}
+use lib.Ieee.{Float, nan}
 use Rattle.order.specs.Order.{finite}
 use Rattle.order.proofs.Booleans.{and-left, and-right, and-both}
 use Rattle.order.specs.Counting.{all}
@@ -53,3 +53,7 @@ rowsOf-sound (suc m) n xs h f =
 -- a table's size fits a usize
 pub size-fits : (rows columns : ℕ) → rows ≤ 4096 → columns ≤ 32 → rows * columns < 2 ^ 64
 size-fits rows columns h k = omega (arith, mul-le-mul-right columns h)
+
+-- an entry of a row, in the table
+pub row-entry : (t : List Float) (rows columns g j : ℕ) → g < rows → j < columns → getD (getD (rowsOf rows columns t) g []) j nan ≡ getD t (g * columns + j) nan
+row-entry t rows columns g j l m = ap (λ (r : List Float). getD r j nan) (rowsOf-row rows columns t g l) ∙ getD-take columns (drop (g * columns) t) j nan m ∙ getD-drop (g * columns) t j nan

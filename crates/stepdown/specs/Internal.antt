@@ -10,19 +10,30 @@
 --   Walk ..              what holds at each call of the put-back walk
 --   Going t r            a table and a run that have passed the checks of a step
 --   advanced t r         the run after its next step, and its record
+--   Traced t             a trace of at most 32 steps, in arrays of 32 places
+--   traceOf ss           the records and rejected sets of steps, in 32 places each
+--   notedAt t i s        a trace with one step more, at place i
+--   verdictIn t j        column j's verdict, read off a trace
+--   finishedRun          the full run that a trace makes
 use Prim.Native.Nat.{ℕ, zero, suc, _+_, _-_, _*_, _^_, _≤_, _<_}
 use mathlib.Core.Path.{_≡_}
 use mathlib.Core.Bool.{Bool, true, false, cond, _&&_, _||_}
-use mathlib.Core.List.{List, [], _∷_}
+use mathlib.Core.List.{List, [], _∷_, map}
 use lib.Dec.{T, eqb, ltb}
-use lib.ListN.{length, getD}
-use lib.Ieee.{Float}
-use Rattle.order.specs.Order.{finite, smaller}
+use lib.ListN.{length, getD, take, set}
+use lib.Ieee.{Float, nan}
+use Rattle.order.specs.Order.{finite, smaller, plusZero}
 use Rattle.order.specs.Counting.{all}
-use Rattle.stepdown.specs.Columns.{size, columnsOf}
+use Rattle.stepdown.specs.Columns.{size, columnsOf, inSet}
 use Rattle.stepdown.specs.Tables.{rowsOf}
-use Rattle.stepdown.specs.Runs.{rejectedSet, after, recordOf}
-use Rattle.stepdown.specs.Answers.{everyColumn}
+use Rattle.stepdown.specs.Runs.{rejectedSet, after, recordOf, tabulate}
+use Rattle.stepdown.specs.Method.{atLeast}
+use Rattle.stepdown.specs.Answers.{everyColumn, padded, noRecord, judgedAs}
+use Rattle.stepdown.specs.declared.Record.{Record}
+use Rattle.stepdown.specs.declared.Verdict.{Verdict}
+use Rattle.stepdown.specs.declared.Verdict.the-variants.{Rejected, Kept}
+use Rattle.stepdown.specs.declared.FullRun.{FullRun}
+use Rattle.stepdown.specs.declared.tracing.Trace.{Trace}
 use Rattle.stepdown.specs.declared.Run.{Run}
 use Rattle.stepdown.specs.declared.Step.{Step}
 use Rattle.stepdown.specs.declared.kmax.Top.{Top}
@@ -102,3 +113,34 @@ unfolding after recordOf rowsOf
 advanced t r =
     let X = rowsOf (r .rows) (r .columns) t in
     record { run = after (everyColumn (r .columns)) X r; mark = recordOf (everyColumn (r .columns)) X r }
+
+-- ---- all steps
+
+unfoldable pub traceOf : List Step → Trace
+traceOf ss = record { steps = length ss; records = padded 32 noRecord (map (λ s. s .mark) ss); sets = padded 32 0 (map (λ s. s .run .rejected) ss) }
+
+pub record Traced (t : Trace) : Type 0 where
+  pub steps-most : t .steps ≤ 32
+  pub records-32 : length (t .records) ≡ 32
+  pub sets-32 : length (t .sets) ≡ 32
+
+abbrev pub notedAt : Trace → ℕ → Step → Trace
+notedAt t i s = record { steps = i + 1; records = set (t .records) i (s .mark); sets = set (t .sets) i (s .run .rejected) }
+
+abbrev pub verdictOver : Float → List Record → List ℕ → ℕ → Verdict
+verdictOver last [] ss j = Kept last
+verdictOver last (r ∷ rs) [] j = Kept last
+verdictOver last (r ∷ rs) (s ∷ ss) j = cond (inSet s j) (Rejected (r .step) (r .critical)) (verdictOver (r .critical) rs ss j)
+
+unfoldable pub verdictIn : Trace → ℕ → Verdict
+verdictIn t j = verdictOver plusZero (take (t .steps) (t .records)) (take (t .steps) (t .sets)) j
+
+unfoldable pub finishedRun : Trace → List Float → ℕ → ℕ → ℕ → FullRun
+unfolding verdictIn tabulate atLeast rowsOf
+finishedRun t table rows columns observed =
+    record
+      { refusal = 0
+      ; steps = t .steps
+      ; records = t .records
+      ; judged = padded 32 (judgedAs (Kept plusZero)) (map judgedAs (tabulate columns (λ j. verdictIn t j)))
+      ; counts = padded 32 0 (tabulate columns (λ j. atLeast (rowsOf rows columns table) (getD table (observed * columns + j) nan) j)) }

@@ -2,14 +2,16 @@
 // The definitions are in specs/, their laws in proofs/. No table is copied; the work buffer is lent.
 mod advance; // one step of an accepted run
 mod bits; // sets of columns as bits
+mod counts; // formula 16: how many rows reach an observed value
 mod kmax; // a row's k-max
 mod putback; // the walk over put-back sets
 mod quantile; // c(K): a quantile of the k-max values, with the work buffer
 mod refusal; // what is turned away
 mod smallest; // the m-th smallest of a slice
+mod tracing; // all steps of a run, and the verdicts read off them
 ghost use mathlib.Core.Path.{_≡_};
 ghost use lib.ListN.{length};
-ghost use Rattle.stepdown.specs.Answers.{beginAnswer, stepAnswer, stepWork};
+ghost use Rattle.stepdown.specs.Answers.{beginAnswer, stepAnswer, stepWork, fullAnswer, fullWork};
 
 // What a step leaves behind (document 01: record): its number, from 1, and its critical value.
 pub struct Record {
@@ -40,6 +42,21 @@ pub struct Step {
 pub enum Verdict {
     Rejected(usize, f64),
     Kept(f64),
+}
+
+// A verdict in a struct of its own: an array of enums is no field.
+pub struct Judged {
+    pub verdict: Verdict,
+}
+
+// A full run: 0 or the refusal number; how many steps; a record for each step; a verdict and a count for each column.
+// Places that the steps and columns don't use are blank, and so are all of a refused run.
+pub struct FullRun {
+    pub refusal: u32,
+    pub steps: usize,
+    pub records: [Record; 32],
+    pub judged: [Judged; 32],
+    pub counts: [usize; 32],
 }
 
 // Beginning a run answers the run, or the refusal number.
@@ -82,4 +99,19 @@ impl Run {
         let mark = s.mark;
         StepAnswer::Stepped(run, mark)
     }
+}
+
+// All steps of a table at once: the same as stepping from the beginning.
+pub fn full_run(table: &[f64], work: &mut [f64], rows: usize, columns: usize, k: usize, a: usize, b: usize, observed: usize) -> FullRun
+    ensures { λ r. ⌜ r ≡ fullAnswer (now (table .entry)) rows columns k a b observed (length (now (work .entry))) ⌝ }
+    ensures { λ r. ⌜ now (work .exit) ≡ fullWork (now (table .entry)) rows columns k a b observed (now (work .entry)) ⌝ }
+{
+    let n = refusal::of_table(table, rows, columns, k, a, b, observed, work.len());
+    if n != 0 {
+        return tracing::blank(n);
+    }
+    let start = Run { rows, columns, k, a, b, observed, rejected: 0, steps: 0, ended: false };
+    let t = tracing::all_steps(start, table, work);
+    advance::clear(work, rows);
+    tracing::finish(t, table, rows, columns, k, observed)
 }
