@@ -1,0 +1,29 @@
+-- Examples: W's file is written and read as document 01 prints it; which refusals some other files meet.
+use mathlib.Core.Path.{_≡_, refl}
+use Rattle.trial.specs.Examples.{trialW}
+use Rattle.trialfile.specs.Words.{bytesOf, signed, bitsOf}
+use Rattle.trialfile.specs.Files.{fileRefusal, answered, readingOf}
+use Rattle.trialfile.specs.Writings.{fileOf}
+use Rattle.trialfile.specs.Examples.{wordsW, wordsTwice, wordsSurplus, wordsAfter}
+
+pub write-W : fileOf trialW ≡ bytesOf wordsW
+unfolding fileOf trialW wordsW bitsOf
+write-W = refl
+
+pub read-W : readingOf (bytesOf wordsW) ≡ answered 0 trialW
+unfolding readingOf wordsW trialW signed bytesOf
+read-W = refl
+
+-- 0042 and 42 are the same offer
+pub twice-6 : fileRefusal (bytesOf wordsTwice) ≡ 6
+unfolding fileRefusal wordsTwice signed bytesOf
+twice-6 = refl
+
+-- in the end's place any other word is 2
+pub surplus-2 : fileRefusal (bytesOf wordsSurplus) ≡ 2
+unfolding fileRefusal wordsSurplus signed bytesOf
+surplus-2 = refl
+
+pub after-8 : fileRefusal (bytesOf wordsAfter) ≡ 8
+unfolding fileRefusal wordsAfter signed bytesOf
+after-8 = refl

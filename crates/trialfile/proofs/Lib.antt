@@ -1,0 +1,14 @@
+pub mod Words
+pub mod Fields
+pub mod Checks
+pub mod Places
+pub mod Parts
+pub mod Written
+pub mod Passed
+pub mod RoundTrip
+pub mod Writes
+pub mod Judged
+pub mod Signed
+pub mod Filling
+pub mod Taken
+pub mod Examples

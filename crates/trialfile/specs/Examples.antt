@@ -1,0 +1,24 @@
+-- Examples of files, as words. Definitions only.
+--   wordsW         the file of the trial W, as document 01 prints it
+--   wordsTwice     two offers of one pair, printed 0042 and 42: the same number twice
+--   wordsSurplus   W's file with a difference too many before the end
+--   wordsAfter     W's file with a word after the end
+use mathlib.Core.List.{List, [], _∷_, _++_}
+use Prim.Native.Nat.{ℕ}
+use lib.ListN.{take}
+
+-- 0x10004004, 0x20010203, 0x3400002A, 0x31000007, 0x40000005, 0x40000003, 0x40000004, 0x40000002, 0x4FFFFFFF, 0x40000001, 0xF000000A
+unfoldable pub wordsW : List ℕ
+wordsW = 268451844 ∷ 536936963 ∷ 872415274 ∷ 822083591 ∷ 1073741829 ∷ 1073741827 ∷ 1073741828 ∷ 1073741826 ∷ 1342177279 ∷ 1073741825 ∷ 4026531850 ∷ []
+
+-- 0x10004004, 0x20010201, 0x3400002A, 0x3200002A, 0x40000005, 0x40000003, 0xF0000006
+unfoldable pub wordsTwice : List ℕ
+wordsTwice = 268451844 ∷ 536936961 ∷ 872415274 ∷ 838860842 ∷ 1073741829 ∷ 1073741827 ∷ 4026531846 ∷ []
+
+unfoldable pub wordsSurplus : List ℕ
+unfolding wordsW
+wordsSurplus = take 10 wordsW ++ (1073741825 ∷ 4026531851 ∷ [])
+
+unfoldable pub wordsAfter : List ℕ
+unfolding wordsW
+wordsAfter = wordsW ++ (4026531850 ∷ [])
