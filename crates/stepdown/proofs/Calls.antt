@@ -1,7 +1,7 @@
 -- The public calls: what their checks let by, and what they answer.
 --   step-known       a step that is not refused has a run and a table that can be stepped
 --   table-known      a full run that is not refused begins with such a run
---   begin-.., step-..    each answer is the definition's
+--   begin-.., step-..    each answer is the definition's; begin-number, step-number: its number is the refusal's
 use Prim.Native.Nat.{ℕ, zero, suc, _+_, _-_, _*_, _^_, _≤_, _<_}
 use native.Mathlib.Omega.{arith}
 use native.Mathlib.Decide.{decLe}
@@ -21,7 +21,7 @@ use Rattle.stepdown.specs.Columns.{size, columnsOf}
 use Rattle.stepdown.specs.Runs.{begun, rejectedSet, after, recordOf}
 use Rattle.stepdown.specs.Refusals.{Checks, firstRefusal, badShape, badLevel, badValue, beginRefusal, badFigures, badProgress, spoiled, stepRefusal, tableChecks, tableRunRefusal}
 use Rattle.stepdown.specs.Buffers.{cleared}
-use Rattle.stepdown.specs.Answers.{everyColumn, beginAnswer, stepAnswer, stepWork}
+use Rattle.stepdown.specs.Answers.{everyColumn, beginAnswer, refusalOfBeginning, stepAnswer, stepWork, refusalOfStep}
 use Rattle.stepdown.specs.Internal.{Ready, Going, advanced}
 use Rattle.stepdown.specs.declared.Run.{Run}
 use Rattle.stepdown.specs.declared.Step.{Step}
@@ -196,3 +196,24 @@ module _ (t : List Float) (r : Run) (work : List Float) where
     pub work-cleared : (w w′ : List Float) → n ≡ 0 → drop (r .rows) w ≡ drop (r .rows) work → w′ ≡ cleared (r .rows) w → w′ ≡ stepWork t r work
     unfolding stepWork
     work-cleared w w′ z d q = q ∙ ap (λ (l : List Float). replicate (r .rows) plusZero ++ l) d ∙ sym (ap (λ (b : Bool). cond b (cleared (r .rows) work) work) (eq-eqb n 0 z)) ∙ ap (λ (m : ℕ). cond (eqb m 0) (cleared (r .rows) work) work) e
+
+-- ---- the paper's number for each case of an answer
+
+pub begin-number : (rows columns k a b observed : ℕ) → refusalOfBeginning (beginAnswer rows columns k a b observed) ≡ beginRefusal rows columns k a b observed
+unfolding beginAnswer
+begin-number rows columns k a b observed = go (beginRefusal rows columns k a b observed)
+  where
+    go : (n : ℕ) → refusalOfBeginning (cond (eqb n 0) (beginning.Begun (begun rows columns k a b observed)) (beginning.Refused n)) ≡ n
+    go zero = refl
+    go (suc n) = ap (λ (x : Bool). refusalOfBeginning (cond x (beginning.Begun (begun rows columns k a b observed)) (beginning.Refused (suc n)))) (ne-eqb (suc n) 0 (λ e. omega arith))
+
+pub step-number : (t : List Float) (r : Run) (places : ℕ) → refusalOfStep (stepAnswer t r places) ≡ stepRefusal t r places
+unfolding stepAnswer
+step-number t r places = go (stepRefusal t r places)
+  where
+    done : StepAnswer
+    done = stepping.Stepped (after (everyColumn (r .columns)) (rowsOf (r .rows) (r .columns) t) r) (recordOf (everyColumn (r .columns)) (rowsOf (r .rows) (r .columns) t) r)
+
+    go : (n : ℕ) → refusalOfStep (cond (eqb n 0) done (stepping.Refused n)) ≡ n
+    go zero = refl
+    go (suc n) = ap (λ (x : Bool). refusalOfStep (cond x done (stepping.Refused (suc n)))) (ne-eqb (suc n) 0 (λ e. omega arith))

@@ -2,13 +2,15 @@
 -- `live` is the set of columns that take part: all of them for a table.
 --   begun rows columns k a b observed   the run before step 1: nothing rejected, no step taken
 --   rejectedSet r                       R: the columns that are rejected so far
---   leftOver live r                     A: the columns that are left
+--   bar k e X live R steps              the critical value after so many steps, with R rejected
 --   barOf live X r                      the critical value of the run's next step
 --   newly live X r                      the columns that its next step rejects
+--   finished k live new R               whether a step that rejected `new`, so that R is rejected, ends the run
 --   after live X r                      the run after its next step
 --   recordOf live X r                   the record of its next step
 --   stepsFrom n ended live X r          the steps from r on until one has ended, at most n; `ended` is whether r has
 --   verdictOf steps j                   column j's verdict
+--   tabulate n f                        f 0 to f (n - 1)
 --   fullRun live X r                    verdicts, counts and records of the run that begins with r
 --   tableRun t rows columns k a b observed   the full run of a table t
 use Prim.Native.Nat.{ℕ, zero, suc, _+_}

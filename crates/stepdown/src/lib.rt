@@ -11,7 +11,7 @@ mod smallest; // the m-th smallest of a slice
 mod tracing; // all steps of a run, and the verdicts read off them
 ghost use mathlib.Core.Path.{_≡_};
 ghost use lib.ListN.{length};
-ghost use Rattle.stepdown.specs.Answers.{beginAnswer, stepAnswer, stepWork, fullAnswer, fullWork};
+ghost use Rattle.stepdown.specs.Answers.{beginAnswer, stepAnswer, stepWork, blankRun, fullAnswer, fullWork};
 
 // What a step leaves behind (document 01: record): its number, from 1, and its critical value.
 pub struct Record {
@@ -99,6 +99,13 @@ impl Run {
         let mark = s.mark;
         StepAnswer::Stepped(run, mark)
     }
+}
+
+// What a full run answers that is refused by a number: blank but for it.
+pub fn refused(number: u32) -> FullRun
+    ensures { λ r. ⌜ r ≡ blankRun number ⌝ }
+{
+    tracing::blank(number)
 }
 
 // All steps of a table at once: the same as stepping from the beginning.

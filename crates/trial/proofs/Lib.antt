@@ -6,3 +6,4 @@ pub mod Places
 pub mod Calls
 pub mod Unused
 pub mod Examples
+pub mod Runs

@@ -12,7 +12,7 @@ use crate::Trial;
 const LIMITS: [u32; 8] = [1, 10, 100, 1000, 10000, 100000, 1000000, 10000000];
 
 // The number of the first of two conditions that holds, and 0 where none does.
-pub fn first_of(b: bool, n: u32, c: bool, m: u32) -> u32
+pub(crate) fn first_of(b: bool, n: u32, c: bool, m: u32) -> u32
     ensures { λ r. ⌜ r ≡ firstRefusal ((b, n) ∷ (c, m) ∷ []) ⌝ }
 {
     if b {
@@ -35,7 +35,7 @@ fn outside(low: usize, high: usize, n: usize) -> bool
 }
 
 // The condition of 4.
-pub fn bad_counts(t: Trial) -> bool
+pub(crate) fn bad_counts(t: Trial) -> bool
     ensures { λ r. ⌜ r ≡ badCounts t ⌝ }
 {
     if outside(1, 9, t.pairs) {
@@ -51,7 +51,7 @@ pub fn bad_counts(t: Trial) -> bool
 }
 
 // The condition of 3.
-pub fn bad_level(a: usize, b: usize) -> bool
+pub(crate) fn bad_level(a: usize, b: usize) -> bool
     ensures { λ r. ⌜ r ≡ badLevel a b ⌝ }
 {
     if a == 0 {
@@ -93,7 +93,7 @@ fn earlier(codes: [u32; 16], i: usize, code: u32) -> bool
 }
 
 // The first refusal among the offers, 5 before 6 at each.
-pub fn offers(codes: [u32; 16], digits: [u8; 16], n: usize) -> u32
+pub(crate) fn offers(codes: [u32; 16], digits: [u8; 16], n: usize) -> u32
     requires { ⌜ n ≤ 16 ⌝ }
     ensures { λ r. ⌜ r ≡ firstRefusal (offerChecks [] (take n codes) (take n digits)) ⌝ }
 {
@@ -122,7 +122,7 @@ fn bad_difference(d: i32) -> bool
 }
 
 // The first refusal among the first n differences.
-pub fn differences(ds: [i32; 144], n: usize) -> u32
+pub(crate) fn differences(ds: [i32; 144], n: usize) -> u32
     requires { ⌜ n ≤ 144 ⌝ }
     ensures { λ r. ⌜ r ≡ firstRefusal (differenceChecks (take n ds)) ⌝ }
 {

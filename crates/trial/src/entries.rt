@@ -9,7 +9,7 @@ ghost use Rattle.trial.specs.Exchange.{signedSum, rowTotal, tableOf};
 use crate::Trial;
 
 // M: a row for each way to exchange the shops of pairs.
-pub fn rows(pairs: usize) -> usize
+pub(crate) fn rows(pairs: usize) -> usize
     requires { ⌜ pairs ≤ 9 ⌝ }
     ensures { λ r. ⌜ r ≡ 2 ^ pairs ⌝ }
 {
@@ -72,7 +72,7 @@ fn place(t: Trial, p: usize) -> f64
 }
 
 // The table into the first places of a buffer.
-pub fn fill(t: Trial, out: &mut [f64], total: usize)
+pub(crate) fn fill(t: Trial, out: &mut [f64], total: usize)
     requires { ⌜ (1 ≤ t .offers) × (t .offers ≤ 16) × (t .pairs ≤ 9) × (total ≡ rowTotal t * t .offers) × (total ≤ length (now out)) ⌝ }
     ensures { λ _. ⌜ now (out .exit) ≡ written (tableOf t) (now (out .entry)) ⌝ }
 {

@@ -2,11 +2,12 @@
 // The definitions are in specs/, their laws in proofs/.
 mod checks;
 mod entries;
+use stepdown::FullRun;
 
 ghost use mathlib.Core.Path.{_≡_};
 ghost use lib.ListN.{length};
 ghost use Rattle.trial.specs.Refusals.{trialRefusal};
-ghost use Rattle.trial.specs.Lent.{tableCallRefusal, tableBuffer};
+ghost use Rattle.trial.specs.Lent.{tableCallRefusal, tableBuffer, runCallRefusal, trialAnswer, runTable, runWork};
 
 // A trial, by value. The level is a/b as written. `codes` and `digits` hold each offer's number and how many digits are printed;
 // the difference of offer i and pair j (both from 0) stands at i * pairs + j. Places that the counts don't use are never looked at.
@@ -56,4 +57,38 @@ pub fn table(t: Trial, out: &mut [f64]) -> u32
     }
     entries::fill(t, out, total);
     0
+}
+
+// The refusal of a full run with buffers of so many places, and 0 where it is accepted.
+fn run_refusal(t: Trial, places: usize, work: usize) -> u32
+    ensures { λ r. ⌜ r ≡ runCallRefusal t places work ⌝ }
+{
+    let r = check(t);
+    if r != 0 {
+        return r;
+    }
+    let m = entries::rows(t.pairs);
+    if places < m * t.offers {
+        return 12;
+    }
+    if work < m {
+        return 12;
+    }
+    0
+}
+
+// The full run of a trial: of its table, with row 0 observed. The table buffer then holds the table, and the work buffer plus zero.
+pub fn full_run(t: Trial, table: &mut [f64], work: &mut [f64]) -> FullRun
+    ensures { λ r. ⌜ r ≡ trialAnswer t (length (now (table .entry))) (length (now (work .entry))) ⌝ }
+    ensures { λ r. ⌜ now (table .exit) ≡ runTable t (now (table .entry)) (length (now (work .entry))) ⌝ }
+    ensures { λ r. ⌜ now (work .exit) ≡ runWork t (length (now (table .entry))) (now (work .entry)) ⌝ }
+{
+    let n = run_refusal(t, table.len(), work.len());
+    if n != 0 {
+        return stepdown::refused(n);
+    }
+    let m = entries::rows(t.pairs);
+    let total = m * t.offers;
+    entries::fill(t, table, total);
+    stepdown::full_run(&table[..total], work, m, t.offers, t.k, t.a, t.b, 0)
 }

@@ -1,0 +1,184 @@
+-- The full run of a trial: its table is accepted, so the run is that of the table.
+--   table-accepted      the table of an accepted trial is an accepted one, whatever the work buffer's places, if they are enough
+--   run-..              each answer of the call, with its buffers
+use Prim.Native.Nat.{ℕ, zero, suc, _+_, _*_, _^_, _≤_, _<_}
+use native.Mathlib.Omega.{arith}
+use mathlib.Core.Path.{_≡_, refl, sym, ap, ap₂, _∙_, subst}
+use mathlib.Core.Bool.{Bool, true, false, not, cond, _||_, _&&_}
+use mathlib.Core.List.{List, [], _∷_, _++_}
+use lib.ListN.{length, take, drop}
+use lib.Seq.{take-at}
+use lib.Dec.{T, ltb, leb, eqb}
+use lib.Pow.{pow-mono}
+use lib.Ieee.{Float}
+use borrow.Author.Tests.{lt-ltb, le-ltb, le-leb, lt-leb, eq-eqb, ne-eqb, ltb-false}
+use Rattle.order.specs.Order.{finite}
+use Rattle.order.specs.Counting.{all}
+use Rattle.order.proofs.Booleans.{T-true, and-left, and-right, not-no, passes}
+use Rattle.order.proofs.Counts.{all-append}
+use Rattle.stepdown.specs.Buffers.{written, cleared}
+use Rattle.stepdown.specs.Refusals.{Checks, firstRefusal, outside, badShape, badLevel, badValue, tableChecks, tableRefusal, tableRunRefusal, tooShort}
+use Rattle.stepdown.specs.Runs.{tableRun}
+use Rattle.stepdown.specs.Answers.{acceptedRun, blankRun, fullAnswer, fullWork}
+use Rattle.stepdown.specs.declared.FullRun.{FullRun}
+use Rattle.stepdown.proofs.Critical.{soundRow}
+use Rattle.stepdown.proofs.Accepted.{Level}
+use Rattle.trial.specs.Exchange.{rowTotal, trialRows, joined, tableOf, trialRun}
+use Rattle.trial.specs.Refusals.{trialChecks, trialRefusal}
+use Rattle.trial.specs.Lent.{runCallRefusal, trialAnswer, runTable, runWork}
+use Rattle.trial.specs.declared.Trial.{Trial}
+use Rattle.trial.proofs.Accepted.{Accepted, accepted, trialChecks-numbered}
+use Rattle.trial.proofs.Tables.{trialRows-sound, rowTotal-some}
+use Rattle.trial.proofs.Places.{tableOf-length}
+use Rattle.trial.proofs.Conditions.{refused-first, refused-next}
+
+-- ---- the table of an accepted trial
+
+joined-finite : (n : ℕ) (rs : List (List Float)) → T (all (soundRow n) rs) → T (all finite (joined rs))
+unfolding joined all
+joined-finite n [] h = tt
+joined-finite n (r ∷ rs) h = all-append finite r (joined rs) (and-right (eqb (length r) n) (all finite r) (and-left (soundRow n r) (all (soundRow n) rs) h)) (joined-finite n rs (and-right (soundRow n r) (all (soundRow n) rs) h))
+
+module _ (t : Trial) (a : Accepted t) where
+  rows-most : rowTotal t ≤ 512
+  unfolding rowTotal
+  rows-most = pow-mono (a .pairs-most)
+
+  shape-good : badShape (rowTotal t) (t .offers) (t .k) ≡ false
+  unfolding badShape
+  shape-good =
+      ap₂ (λ (x y : Bool). (x || y) || ((ltb (t .offers) 1 || ltb 32 (t .offers)) || ((ltb (t .k) 1 || ltb 4 (t .k)) || ltb (t .offers) (t .k)))) (le-ltb (rowTotal t) 1 (rowTotal-some t)) (le-ltb 4096 (rowTotal t) (omega (arith, rows-most)))
+      ∙ ap₂ (λ (x y : Bool). (x || y) || ((ltb (t .k) 1 || ltb 4 (t .k)) || ltb (t .offers) (t .k))) (le-ltb (t .offers) 1 (a .offers-some)) (le-ltb 32 (t .offers) (omega (arith, a .offers-most)))
+      ∙ ap₂ (λ (x y : Bool). (x || y) || ltb (t .offers) (t .k)) (le-ltb (t .k) 1 (a .k-some)) (le-ltb 4 (t .k) (a .k-most))
+      ∙ le-ltb (t .offers) (t .k) (a .k-held)
+
+  level-good : badLevel (t .a) (t .b) ≡ false
+  unfolding badLevel
+  level-good =
+      let l = a .levelled in
+      ap₂ (λ (x y : Bool). x || (y || (leb (t .b) (t .a) || ltb 16383 (t .b)))) (ne-eqb (t .a) 0 (λ e. omega (arith, l .a-some))) (ne-eqb (t .b) 0 (λ e. omega (arith, l .proper)))
+      ∙ ap₂ (λ (x y : Bool). x || y) (lt-leb (t .b) (t .a) (l .proper)) (le-ltb 16383 (t .b) (l .b-most))
+
+  values-good : badValue (tableOf t) ≡ false
+  unfolding badValue tableOf
+  values-good = ap not (T-true (all finite (tableOf t)) (joined-finite (t .offers) (trialRows t) (trialRows-sound t a)))
+
+  pub table-accepted : tableRefusal (tableOf t) (rowTotal t) (t .offers) (t .k) (t .a) (t .b) 0 ≡ 0
+  unfolding tableRefusal tableChecks firstRefusal
+  table-accepted = sym (passes _ _ _ _ shape-good (passes _ _ _ _ level-good (passes _ _ _ _ (not-no _ (eq-eqb (length (tableOf t)) (rowTotal t * t .offers) (tableOf-length t))) (passes _ _ _ _ (lt-leb (rowTotal t) 0 (rowTotal-some t)) (passes _ _ _ _ values-good refl)))))
+
+  pub table-runs : (places : ℕ) → rowTotal t ≤ places → tableRunRefusal (tableOf t) (rowTotal t) (t .offers) (t .k) (t .a) (t .b) 0 places ≡ 0
+  unfolding tableRunRefusal tableChecks firstRefusal
+  table-runs places h = sym (passes _ _ _ _ shape-good (passes _ _ _ _ level-good (passes _ _ _ _ (not-no _ (eq-eqb (length (tableOf t)) (rowTotal t * t .offers) (tableOf-length t))) (passes _ _ _ _ (lt-leb (rowTotal t) 0 (rowTotal-some t)) (passes _ _ _ _ values-good (passes _ _ _ _ (le-ltb places (rowTotal t) h) refl))))))
+
+-- ---- the refusal of the call
+
+module _ (t : Trial) (places work r : ℕ) (e : r ≡ trialRefusal t) where
+  pub run-refused : (r ≡ 0 → ⊥) → r ≡ runCallRefusal t places work
+  unfolding runCallRefusal trialRefusal
+  run-refused h = refused-first (trialChecks t) (tooShort places (rowTotal t * t .offers) ++ tooShort work (rowTotal t)) r e h
+
+  pub run-known : r ≡ 0 → Accepted t
+  run-known h = accepted t (sym e ∙ h)
+
+  module _ (h : r ≡ 0) (m : ℕ) (q : m ≡ 2 ^ (t .pairs)) where
+    m-is : m ≡ rowTotal t
+    unfolding rowTotal
+    m-is = q
+
+    last : runCallRefusal t places work ≡ cond (ltb places (m * t .offers)) 12 (cond (ltb work m) 12 0)
+    unfolding runCallRefusal trialRefusal firstRefusal
+    last = refused-next (trialChecks t) (tooShort places (rowTotal t * t .offers) ++ tooShort work (rowTotal t)) (trialChecks-numbered t) (sym e ∙ h)
+      ∙ ap (λ (n : ℕ). cond (ltb places (n * t .offers)) 12 (cond (ltb work n) 12 0)) (sym m-is)
+
+    pub run-short : places < m * t .offers → 12 ≡ runCallRefusal t places work
+    run-short l = sym (last ∙ ap (λ (b : Bool). cond b 12 (cond (ltb work m) 12 0)) (lt-ltb places (m * t .offers) l))
+
+    pub run-cramped : m * t .offers ≤ places → work < m → 12 ≡ runCallRefusal t places work
+    run-cramped l k = sym (last ∙ ap₂ (λ (b c : Bool). cond b 12 (cond c 12 0)) (le-ltb places (m * t .offers) l) (lt-ltb work m k))
+
+    pub run-free : m * t .offers ≤ places → m ≤ work → 0 ≡ runCallRefusal t places work
+    run-free l k = sym (last ∙ ap₂ (λ (b c : Bool). cond b 12 (cond c 12 0)) (le-ltb places (m * t .offers) l) (le-ltb work m k))
+
+-- ---- what is known of a call that is not refused
+
+none-first : (cs ds : Checks) → T (all (λ c. ltb 0 (c .1)) cs) → firstRefusal (cs ++ ds) ≡ 0 → (firstRefusal cs ≡ 0) × (firstRefusal ds ≡ 0)
+unfolding firstRefusal all
+none-first [] ds n h = (refl, h)
+none-first (c ∷ cs) ds n h = go (c .0) (lib.Dec.ltb→lt 0 (c .1) (and-left (ltb 0 (c .1)) (all (λ c. ltb 0 (c .1)) cs) n)) (none-first cs ds (and-right (ltb 0 (c .1)) (all (λ c. ltb 0 (c .1)) cs) n)) h
+  where
+    go : (b : Bool) → 0 < c .1 → (firstRefusal (cs ++ ds) ≡ 0 → (firstRefusal cs ≡ 0) × (firstRefusal ds ≡ 0)) → cond b (c .1) (firstRefusal (cs ++ ds)) ≡ 0 → (cond b (c .1) (firstRefusal cs) ≡ 0) × (firstRefusal ds ≡ 0)
+    go true p on h = absurd (omega arith)
+    go false p on h = on h
+
+pub record Runs (t : Trial) (places work : ℕ) : Type 0 where
+  pub good : Accepted t
+  pub table-room : rowTotal t * t .offers ≤ places
+  pub work-room : rowTotal t ≤ work
+
+pub runs-known : (t : Trial) (places work : ℕ) → runCallRefusal t places work ≡ 0 → Runs t places work
+unfolding runCallRefusal trialRefusal firstRefusal
+runs-known t places work h =
+    let f = none-first (trialChecks t) (tooShort places (rowTotal t * t .offers) ++ tooShort work (rowTotal t)) (trialChecks-numbered t) h in
+    record { good = accepted t (f .0); table-room = both (f .1) .0; work-room = both (f .1) .1 }
+  where
+    both : firstRefusal (tooShort places (rowTotal t * t .offers) ++ tooShort work (rowTotal t)) ≡ 0 → (rowTotal t * t .offers ≤ places) × (rowTotal t ≤ work)
+    both q = go (ltb places (rowTotal t * t .offers)) (ltb work (rowTotal t)) (ltb-false places (rowTotal t * t .offers)) (ltb-false work (rowTotal t)) q
+      where
+        go : (b c : Bool) → (b ≡ false → rowTotal t * t .offers ≤ places) → (c ≡ false → rowTotal t ≤ work) → _≡_ {A = ℕ} (cond b 12 (cond c 12 0)) 0 → (rowTotal t * t .offers ≤ places) × (rowTotal t ≤ work)
+        go true c f g z = absurd (omega arith)
+        go false true f g z = absurd (omega arith)
+        go false false f g z = (f refl, g refl)
+
+-- ---- the answers
+
+module _ (t : Trial) (table work : List Float) (n : ℕ) (e : n ≡ runCallRefusal t (length table) (length work)) where
+  pub answer-refused : (r : FullRun) → (n ≡ 0 → ⊥) → r ≡ blankRun n → r ≡ trialAnswer t (length table) (length work)
+  unfolding trialAnswer
+  answer-refused r f q = q ∙ sym (ap (λ (b : Bool). cond b (acceptedRun (trialRun t)) (blankRun n)) (ne-eqb n 0 f)) ∙ ap (λ (m : ℕ). cond (eqb m 0) (acceptedRun (trialRun t)) (blankRun m)) e
+
+  pub table-kept : (n ≡ 0 → ⊥) → table ≡ runTable t table (length work)
+  unfolding runTable
+  table-kept f = sym (ap (λ (b : Bool). cond b (written (tableOf t) table) table) (ne-eqb n 0 f)) ∙ ap (λ (m : ℕ). cond (eqb m 0) (written (tableOf t) table) table) e
+
+  pub work-kept : (n ≡ 0 → ⊥) → work ≡ runWork t (length table) work
+  unfolding runWork
+  work-kept f = sym (ap (λ (b : Bool). cond b (cleared (rowTotal t) work) work) (ne-eqb n 0 f)) ∙ ap (λ (m : ℕ). cond (eqb m 0) (cleared (rowTotal t) work) work) e
+
+  module _ (z : n ≡ 0) where
+    known : Runs t (length table) (length work)
+    known = runs-known t (length table) (length work) (sym e ∙ z)
+
+    pub call-known : Runs t (length table) (length work)
+    call-known = known
+
+    pub table-written : (w : List Float) → w ≡ written (tableOf t) table → w ≡ runTable t table (length work)
+    unfolding runTable
+    table-written w q = q ∙ sym (ap (λ (b : Bool). cond b (written (tableOf t) table) table) (eq-eqb n 0 z)) ∙ ap (λ (m : ℕ). cond (eqb m 0) (written (tableOf t) table) table) e
+
+    module _ (m : ℕ) (q : m ≡ 2 ^ (t .pairs)) (w : List Float) (p : w ≡ written (tableOf t) table) where
+      rows-are : m ≡ rowTotal t
+      unfolding rowTotal
+      rows-are = q
+
+      front : take (m * t .offers) w ≡ tableOf t
+      front = ap (take (m * t .offers)) p ∙ take-at (tableOf t) (drop (length (tableOf t)) table) (m * t .offers) (tableOf-length t ∙ ap (λ (x : ℕ). x * t .offers) (sym rows-are))
+
+      free : tableRunRefusal (tableOf t) (rowTotal t) (t .offers) (t .k) (t .a) (t .b) 0 (length work) ≡ 0
+      free = table-runs t (known .good) (length work) (known .work-room)
+
+      answer-is : fullAnswer (take (m * t .offers) w) m (t .offers) (t .k) (t .a) (t .b) 0 (length work) ≡ acceptedRun (trialRun t)
+      unfolding fullAnswer trialRun
+      answer-is =
+          ap₂ (λ (x : List Float) (y : ℕ). fullAnswer x y (t .offers) (t .k) (t .a) (t .b) 0 (length work)) front rows-are
+          ∙ ap (λ (x : ℕ). cond (eqb x 0) (acceptedRun (tableRun (tableOf t) (rowTotal t) (t .offers) (t .k) (t .a) (t .b) 0)) (blankRun x)) free
+
+      pub answer-run : (r : FullRun) → r ≡ fullAnswer (take (m * t .offers) w) m (t .offers) (t .k) (t .a) (t .b) 0 (length work) → r ≡ trialAnswer t (length table) (length work)
+      unfolding trialAnswer
+      answer-run r v = v ∙ answer-is ∙ sym (ap (λ (b : Bool). cond b (acceptedRun (trialRun t)) (blankRun n)) (eq-eqb n 0 z)) ∙ ap (λ (x : ℕ). cond (eqb x 0) (acceptedRun (trialRun t)) (blankRun x)) e
+
+      pub work-done : (v : List Float) → v ≡ fullWork (take (m * t .offers) w) m (t .offers) (t .k) (t .a) (t .b) 0 work → v ≡ runWork t (length table) work
+      unfolding fullWork runWork
+      work-done v k =
+          k ∙ ap₂ (λ (x : List Float) (y : ℕ). fullWork x y (t .offers) (t .k) (t .a) (t .b) 0 work) front rows-are
+          ∙ ap (λ (x : ℕ). cond (eqb x 0) (cleared (rowTotal t) work) work) (free ∙ sym z ∙ e)
