@@ -38,9 +38,13 @@ rejected-within : (n : ℕ) (idle : ℕ → Bool) (vs : List Verdict) (B : Colum
     → ((j : ℕ) → j < n → T (idle j) → T (isRejected (getD vs j (Kept plusZero))) → T (has B j)) → rejectedAmong idle vs ≤ size B
 unfolding rejectedAmong size
 rejected-within n idle vs B l m h =
-    omega (arith, countBelow-le (length vs) (λ j. idle j && isRejected (getD vs j (Kept plusZero))) (λ j. has B j)
-        (λ j i t. h j (omega arith) (and-left (idle j) (isRejected (getD vs j (Kept plusZero))) t) (and-right (idle j) (isRejected (getD vs j (Kept plusZero))) t)),
-      ap (λ (i : ℕ). countBelow i (λ j. has B j)) (l ∙ sym m), countBelow-list (λ b. b) B false)
+    omega (
+      arith,
+      countBelow-le (length vs) (λ j. idle j && isRejected (getD vs j (Kept plusZero))) (λ j. has B j)
+          (λ j i t. h j (omega arith) (and-left (idle j) (isRejected (getD vs j (Kept plusZero))) t) (and-right (idle j) (isRejected (getD vs j (Kept plusZero))) t)),
+      ap (λ (i : ℕ). countBelow i (λ j. has B j)) (l ∙ sym m),
+      countBelow-list (λ b. b) B false,
+    )
 
 above-size : (K : Columns) (v : ℕ) (row : List Float) → size (K ∩ aboveKey v row) ≡ count (λ x. ltb v (key x)) (within K row)
 above-size K v row = size-test (λ x. ltb v (key x)) K row
@@ -104,11 +108,11 @@ module _ (n : ℕ) (idle : ℕ → Bool) where
 
           nothing : (K ∩ R) ⊆ (K ∩ aboveKey v (getD Y o []))
           nothing = ⊆-by (K ∩ R) (K ∩ aboveKey v (getD Y o [])) (length-∩ K R short ∙ sym (length-∩ K (aboveKey v (getD Y o [])) even))
-            (λ j t. absurd (subst (λ (c : Bool). T c) (begun-empty M n k a b o j) (and-right (has K j) (has R j) (subst (λ (c : Bool). T c) (has-∩ K R short j) t))))
+              (λ j t. absurd (subst (λ (c : Bool). T c) (begun-empty M n k a b o j) (and-right (has K j) (has R j) (subst (λ (c : Bool). T c) (has-∩ K R short j) t))))
 
       above-all : size (K ∩ aboveKey v obs) < k → rejectedAmong idle (verdicts M n live Y k a b o) ≤ size (K ∩ aboveKey v obs)
       above-all few = rejected-within n idle (verdicts M n live Y k a b o) (K ∩ aboveKey v obs) (verdicts-length M n live Y k a b o) (length-∩ K (aboveKey v obs) even ∙ K-length)
-        (λ j h t u. rejected-above live Y K k (allowance M a b) v obs own sub pos (omega arith) wide low few (begun M n k a b o) start
+          (λ j h t u. rejected-above live Y K k (allowance M a b) v obs own sub pos (omega arith) wide low few (begun M n k a b o) start
           j (in-K j h t) (subst (λ (w : Verdict). T (isRejected w)) (verdict-is M n live Y k a b o j h) u))
 
       -- where k or more idle columns are rejected, the idle k-max of the observed row is above v
@@ -178,9 +182,9 @@ module _ (n k a b : ℕ) (X : List (List Float)) (idle : ℕ → Bool) (live : �
   bad-row wide g l t =
       lt→ltb v (key (kMax k (K n idle) (getD X g [])))
       (subst (λ (c : Float). v < key c) (kMax-same k (K n idle) (getD (Y g) (o g) []) (getD X g []) (m .row))
-        (bad-above n idle (length X) (live g) (Y g) k a b (o g) (m .sound) (m .tall) (m .broad) (m .lives) pos (m .seen) rare wide v
-          (rows-bound n k (allowance (length X) a b) X (Y g) (K n idle) sound (m .sound) pos rare (omega (arith, m .tall)) (m .rows))
-          (leb→le k (rejectedAmong idle (verdicts (length X) n (live g) (Y g) k a b (o g))) t)))
+      (bad-above n idle (length X) (live g) (Y g) k a b (o g) (m .sound) (m .tall) (m .broad) (m .lives) pos (m .seen) rare wide v
+      (rows-bound n k (allowance (length X) a b) X (Y g) (K n idle) sound (m .sound) pos rare (omega (arith, m .tall)) (m .rows))
+      (leb→le k (rejectedAmong idle (verdicts (length X) n (live g) (Y g) k a b (o g))) t)))
     where
       m : Member n X idle (live g) (Y g) (o g) g
       m = member g l
@@ -191,9 +195,16 @@ module _ (n k a b : ℕ) (X : List (List Float)) (idle : ℕ → Bool) (live : �
     where
       go : Dec (k ≤ size (K n idle)) → countBelow (length X) bad ≤ allowance (length X) a b
       go (yes wide) =
-          omega (arith, countBelow-le (length X) bad (λ g. ltb v (key (kMax k (K n idle) (getD X g [])))) (bad-row wide),
-            countBelow-list (λ row. ltb v (key (kMax k (K n idle) row))) X [], few-rows n k (allowance (length X) a b) X (K n idle) sound pos rare)
+          omega (
+            arith,
+            countBelow-le (length X) bad (λ g. ltb v (key (kMax k (K n idle) (getD X g [])))) (bad-row wide),
+            countBelow-list (λ row. ltb v (key (kMax k (K n idle) row))) X [],
+            few-rows n k (allowance (length X) a b) X (K n idle) sound pos rare,
+          )
       go (no narrow) =
-          omega (arith, countBelow-le (length X) bad (λ _. false)
-            (λ g l t. absurd (omega (arith, narrow, leb→le k (rejectedAmong idle (verdicts (length X) n (live g) (Y g) k a b (o g))) t, few-idle n idle (length X) (live g) (Y g) k a b (o g)))),
-            countBelow-none (length X))
+          omega (
+            arith,
+            countBelow-le (length X) bad (λ _. false)
+                (λ g l t. absurd (omega (arith, narrow, leb→le k (rejectedAmong idle (verdicts (length X) n (live g) (Y g) k a b (o g))) t, few-idle n idle (length X) (live g) (Y g) k a b (o g)))),
+            countBelow-none (length X),
+          )

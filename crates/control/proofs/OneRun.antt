@@ -56,7 +56,7 @@ pub covers : (K live R I : Columns) → length R ≡ length live → K ⊆ live 
 covers K live R I h sub held =
     ⊆-by K ((live ∖ R) ∪ I) (⊆-length sub ∙ sym (length-∖ live R (sym h)) ∙ sym (length-∪ (live ∖ R) I even))
     (λ j t. subst (λ (b : Bool). T b) (sym (has-∪ (live ∖ R) I even j ∙ ap (λ (b : Bool). b || has I j) (has-∖ live R (sym h) j)))
-      (covers-bit (has K j) (has live j) (has R j) (has I j) (⊆-at sub j) (λ u. ⊆-at held j (subst (λ (b : Bool). T b) (sym (has-∩ K R short j)) u)) t))
+    (covers-bit (has K j) (has live j) (has R j) (has I j) (⊆-at sub j) (λ u. ⊆-at held j (subst (λ (b : Bool). T b) (sym (has-∩ K R short j)) u)) t))
   where
     short : length K ≡ length R
     short = ⊆-length sub ∙ sym h
@@ -83,9 +83,9 @@ module _ (live : Columns) (X : List (List Float)) (K : Columns) (k e v : ℕ) (o
     put-back-high later =
         putBack-reaches (length live) k e X sound (leftOver live r) (rejectedSet r) v
         (choose-reaches {B = K ∩ rejectedSet r} {R = rejectedSet r} (k - 1) in-R (omega (arith, size-mono (h .inside))) (omega (arith, h .many going later))
-          (λ I. leb v (key (criticalValue k e X (leftOver live r ∪ I))))
-          (λ I s. le→leb v (key (criticalValue k e X (leftOver live r ∪ I)))
-            (omega (arith, criticalValue-mono (length live) k e X sound pos rare K (leftOver live r ∪ I) (⊆-length sub) (covers K live (rejectedSet r) I len sub s) wide))))
+        (λ I. leb v (key (criticalValue k e X (leftOver live r ∪ I))))
+        (λ I s. le→leb v (key (criticalValue k e X (leftOver live r ∪ I)))
+        (omega (arith, criticalValue-mono (length live) k e X sound pos rare K (leftOver live r ∪ I) (⊆-length sub) (covers K live (rejectedSet r) I len sub s) wide))))
       where
         len : length (rejectedSet r) ≡ length live
         len = rejected-length live X r sound (h .fit)
@@ -95,7 +95,7 @@ module _ (live : Columns) (X : List (List Float)) (K : Columns) (k e v : ℕ) (o
 
         in-R : (K ∩ rejectedSet r) ⊆ rejectedSet r
         in-R = ⊆-by (K ∩ rejectedSet r) (rejectedSet r) (length-∩ K (rejectedSet r) even ∙ even)
-          (λ j t. and-right (has K j) (has (rejectedSet r) j) (subst (λ (b : Bool). T b) (has-∩ K (rejectedSet r) even j) t))
+            (λ j t. and-right (has K j) (has (rejectedSet r) j) (subst (λ (b : Bool). T b) (has-∩ K (rejectedSet r) even j) t))
 
     bar-high : v ≤ key (barOf live X r)
     bar-high = go (decLe 1 (r .steps))
@@ -103,12 +103,12 @@ module _ (live : Columns) (X : List (List Float)) (K : Columns) (k e v : ℕ) (o
         go : Dec (0 < r .steps) → v ≤ key (barOf live X r)
         go (yes p) = subst (λ (c : Float). v ≤ key c) (sym (bar-later live X r p ∙ ap₂ (λ (x y : ℕ). putBack x y X (leftOver live r) (rejectedSet r)) (h .same-k) (h .same-e))) (put-back-high p)
         go (no p) = subst (λ (c : Float). v ≤ key c) (sym (bar-first live X r (omega (arith, p)) ∙ ap₂ (λ (x y : ℕ). criticalValue x y X live) (h .same-k) (h .same-e)))
-          (omega (arith, criticalValue-mono (length live) k e X sound pos rare K live (⊆-length sub) sub wide))
+            (omega (arith, criticalValue-mono (length live) k e X sound pos rare K live (⊆-length sub) sub wide))
 
     after-inside : (K ∩ rejectedSet (after live X r)) ⊆ (K ∩ aboveKey v obs)
     after-inside = rw (after-rejected live X r sound (h .fit))
         (⊆-by (K ∩ (rejectedSet r ∪ newly live X r)) (K ∩ aboveKey v obs) (length-∩ K (rejectedSet r ∪ newly live X r) even ∙ sym (length-∩ K (aboveKey v obs) level))
-          (λ j t. column j (subst (λ (b : Bool). T b) (has-∩ K (rejectedSet r ∪ newly live X r) even j ∙ ap (λ (b : Bool). has K j && b) (has-∪ (rejectedSet r) (newly live X r) same j)) t)))
+        (λ j t. column j (subst (λ (b : Bool). T b) (has-∩ K (rejectedSet r ∪ newly live X r) even j ∙ ap (λ (b : Bool). has K j && b) (has-∪ (rejectedSet r) (newly live X r) same j)) t)))
       where
         len : length (rejectedSet r) ≡ length live
         len = rejected-length live X r sound (h .fit)
@@ -129,8 +129,8 @@ module _ (live : Columns) (X : List (List Float)) (K : Columns) (k e v : ℕ) (o
         new-above : (j : ℕ) → T (has (newly live X r) j) → T (has (aboveKey v obs) j)
         new-above j t = subst (λ (row : List Float). T (has (aboveKey v row) j)) (h .same-row)
             (over-above (barOf live X r) v (seenRow X r) j (bar-finite live X r sound (h .fit)) bar-high (seen-finite live X r sound (h .fit))
-              (and-right (has (leftOver live r) j) (has (over (barOf live X r) (seenRow X r)) j)
-                (subst (λ (b : Bool). T b) (ap (λ (S : Columns). has S j) (newly-is live X r sound (h .fit)) ∙ has-∩ (leftOver live r) (over (barOf live X r) (seenRow X r)) both j) t)))
+            (and-right (has (leftOver live r) j) (has (over (barOf live X r) (seenRow X r)) j)
+            (subst (λ (b : Bool). T b) (ap (λ (S : Columns). has S j) (newly-is live X r sound (h .fit)) ∙ has-∩ (leftOver live r) (over (barOf live X r) (seenRow X r)) both j) t)))
           where
             both : length (leftOver live r) ≡ length (over (barOf live X r) (seenRow X r))
             both = left-length live X r sound (h .fit) ∙ sym (over-length (barOf live X r) (seenRow X r) ∙ seen-length live X r sound (h .fit))
@@ -147,18 +147,19 @@ module _ (live : Columns) (X : List (List Float)) (K : Columns) (k e v : ℕ) (o
 
     after-held : Held live X K k e v obs (after live X r)
     unfolding after
-    after-held = record
-      { fit = after-fitting live X r sound (h .fit)
-      ; same-k = h .same-k
-      ; same-e = h .same-e
-      ; same-row = h .same-row
-      ; inside = after-inside
-      ; many = λ on _. omega (arith, going-on live X r sound (h .fit) on .many, h .same-k) }
+    after-held = record {
+      fit = after-fitting live X r sound (h .fit);
+      same-k = h .same-k;
+      same-e = h .same-e;
+      same-row = h .same-row;
+      inside = after-inside;
+      many = λ on _. omega (arith, going-on live X r sound (h .fit) on .many, h .same-k);
+    }
 
     -- a column of K that is rejected after the step lies above v
     shown : (j : ℕ) → T (has K j) → T (inSet (after live X r .rejected) j) → T (has (K ∩ aboveKey v obs) j)
     shown j t u = ⊆-at after-inside j
-      (subst (λ (b : Bool). T b) (sym (has-∩ K (rejectedSet (after live X r)) (⊆-length sub ∙ sym (rejected-length live X (after live X r) sound (after-fitting live X r sound (h .fit)))) j))
+        (subst (λ (b : Bool). T b) (sym (has-∩ K (rejectedSet (after live X r)) (⊆-length sub ∙ sym (rejected-length live X (after live X r) sound (after-fitting live X r sound (h .fit)))) j))
         (and-both (has K j) (has (rejectedSet (after live X r)) j) t (subst (λ (b : Bool). T b) (sym (at-column (after live X r) j (omega (arith, has-length K j t, ⊆-length sub, after-fitting live X r sound (h .fit) .wide)))) u)))
 
   -- a column of K whose verdict is rejected lies above v

@@ -53,10 +53,13 @@ pub count-inj : (n m : ℕ) (τ : ℕ → ℕ) (q : ℕ → Bool) → ((i : ℕ)
 unfolding countBelow
 count-inj zero m τ q in-m inj = omega arith
 count-inj (suc n) m τ q in-m inj =
-    omega (arith, without-one m q (τ n) (in-m n (omega arith)),
+    omega (
+      arith,
+      without-one m q (τ n) (in-m n (omega arith)),
       count-inj n m τ (without q (τ n)) (λ i l. in-m i (omega arith)) (λ i j l r. inj i j (omega arith) (omega arith)),
       countBelow-le n (λ i. q (τ i)) (λ i. without q (τ n) (τ i))
-        (λ i l t. bit-T (without q (τ n) (τ i)) (omega (arith, without-other q (τ i) (τ n) (λ e. omega (arith, inj i n (omega arith) (omega arith) e)), bit-yes (q (τ i)) t))))
+          (λ i l t. bit-T (without q (τ n) (τ i)) (omega (arith, without-other q (τ i) (τ n) (λ e. omega (arith, inj i n (omega arith) (omega arith) e)), bit-yes (q (τ i)) t))),
+    )
 
 -- ---- rows that agree on a set
 
@@ -77,9 +80,14 @@ pub reordered : (X Y : List (List Float)) (K : Columns) (σ τ : ℕ → ℕ) �
     → ((h : ℕ) → h < length X → within K (getD Y h []) ≡ within K (getD X (σ h) []))
     → (p : List Float → Bool) → count p (map (within K) X) ≤ count p (map (within K) Y)
 reordered X Y K σ τ len in-X back rows p =
-    omega (arith, count-map (within K) p X, count-map (within K) p Y,
-      countBelow-list (λ r. p (within K r)) X [], countBelow-list (λ r. p (within K r)) Y [],
+    omega (
+      arith,
+      count-map (within K) p X,
+      count-map (within K) p Y,
+      countBelow-list (λ r. p (within K r)) X [],
+      countBelow-list (λ r. p (within K r)) Y [],
       countBelow-le (length X) (λ i. p (within K (getD X i []))) (λ i. p (within K (getD Y (τ i) [])))
-        (λ i l t. subst (λ (r : List Float). T (p r)) (sym (rows (τ i) (in-X i l) ∙ ap (λ (z : ℕ). within K (getD X z [])) (back i l))) t),
+          (λ i l t. subst (λ (r : List Float). T (p r)) (sym (rows (τ i) (in-X i l) ∙ ap (λ (z : ℕ). within K (getD X z [])) (back i l))) t),
       count-inj (length X) (length Y) τ (λ h. p (within K (getD Y h []))) (λ i l. omega (arith, in-X i l))
-        (λ i j l r e. sym (back i l) ∙ ap σ e ∙ back j r))
+          (λ i j l r e. sym (back i l) ∙ ap σ e ∙ back j r),
+    )

@@ -23,7 +23,7 @@ use Rattle.control.proofs.Reorder.{within-same, reordered}
 -- a set of columns is among all
 pub in-all : (n : ℕ) (idle : ℕ → Bool) → tabulate n idle ⊆ replicate n true
 in-all n idle = ⊆-by (tabulate n idle) (replicate n true) (tabulate-length n idle ∙ sym (length-replicate n true))
-  (λ j t. subst (λ (b : Bool). T b) (sym (has-all n j (omega (arith, has-length (tabulate n idle) j t, tabulate-length n idle)))) tt)
+    (λ j t. subst (λ (b : Bool). T b) (sym (has-all n j (omega (arith, has-length (tabulate n idle) j t, tabulate-length n idle)))) tt)
 
 pub table-sound : (t : List Float) (rows columns k a b o : ℕ) → Accepted t rows columns k a b o → Sound columns (rowsOf rows columns t)
 table-sound t rows columns k a b o acc = rowsOf-sound rows columns t (acc .full) (acc .finitely)
@@ -39,7 +39,7 @@ module _ (rows columns k a b : ℕ) (t : List Float) (idle : ℕ → Bool) (runs
   idle-row u o p acc acc′ same h l =
       within-same (tabulate columns idle) (getD (rowsOf rows columns u) h []) (getD (rowsOf rows columns t) h []) (width u p acc′ ∙ sym (width t o acc))
       (λ j i q. let m : j < columns = omega (arith, width u p acc′) in
-        in-entry u h j l m ∙ same h j l m (subst (λ (c : Bool). T c) (tabulate-getD columns idle j false m) q) ∙ sym (in-entry t h j l m))
+      in-entry u h j l m ∙ same h j l m (subst (λ (c : Bool). T c) (tabulate-getD columns idle j false m) q) ∙ sym (in-entry t h j l m))
     where
       in-entry : (w : List Float) (h j : ℕ) → h < rows → j < columns → getD (getD (rowsOf rows columns w) h []) j nan ≡ entry w columns h j
       in-entry w h j l m = row-entry w rows columns h j l m
@@ -55,7 +55,7 @@ module _ (rows columns k a b : ℕ) (t : List Float) (idle : ℕ → Bool) (runs
   tables o ok oks same =
       subst (λ (M : ℕ). runsThatReject k M idle (λ g. fullRun (replicate columns true) (rowsOf rows columns (runs g)) (begun M columns k a b g) .verdicts) ≤ allowance M a b) tall
       (general columns k a b (rowsOf rows columns t) idle (λ _. replicate columns true) (λ g. rowsOf rows columns (runs g)) (λ g. g)
-        (table-sound t rows columns k a b o acc) (acc .shaped .k-some) (subst (λ (M : ℕ). allowance M a b < M) (sym tall) (allowance-lt rows a b (acc .shaped .rows-some) (acc .levelled .proper))) member)
+      (table-sound t rows columns k a b o acc) (acc .shaped .k-some) (subst (λ (M : ℕ). allowance M a b < M) (sym tall) (allowance-lt rows a b (acc .shaped .rows-some) (acc .levelled .proper))) member)
     where
       acc : Accepted t rows columns k a b o
       acc = accepted t rows columns k a b o ok
@@ -68,12 +68,13 @@ module _ (rows columns k a b : ℕ) (t : List Float) (idle : ℕ → Bool) (runs
           let m : g < rows = omega (arith, tall) in
           let acc′ = accepted (runs g) rows columns k a b g (oks g m) in
           let own : length (rowsOf rows columns (runs g)) ≡ rows = rowsOf-length rows columns (runs g) in
-          record
-            { sound = table-sound (runs g) rows columns k a b g acc′
-            ; tall = own ∙ sym tall
-            ; broad = length-replicate columns true
-            ; lives = in-all columns idle
-            ; seen = omega arith
-            ; rows = reordered (rowsOf rows columns t) (rowsOf rows columns (runs g)) (tabulate columns idle) (λ h. h) (λ h. h) (own ∙ sym tall) (λ i q. q) (λ i q. refl)
-                (λ h q. idle-row (runs g) o g acc acc′ (same g m) h (omega (arith, tall)))
-            ; row = idle-row (runs g) o g acc acc′ (same g m) g m }
+          record {
+            sound = table-sound (runs g) rows columns k a b g acc′;
+            tall = own ∙ sym tall;
+            broad = length-replicate columns true;
+            lives = in-all columns idle;
+            seen = omega arith;
+            rows = reordered (rowsOf rows columns t) (rowsOf rows columns (runs g)) (tabulate columns idle) (λ h. h) (λ h. h) (own ∙ sym tall) (λ i q. q) (λ i q. refl)
+                (λ h q. idle-row (runs g) o g acc acc′ (same g m) h (omega (arith, tall)));
+            row = idle-row (runs g) o g acc acc′ (same g m) g m;
+          }

@@ -51,11 +51,11 @@ xor-back : (h g : ℕ) → bitXor (bitXor h g) g ≡ h
 xor-back =
     bin-ind (λ (n : ℕ). (g : ℕ) → bitXor (bitXor n g) g ≡ n) (λ g. xor-self g)
     (λ n ih g.
-      xor-step (bitXor n g) g
-      ∙ ap₂ (λ (x y : ℕ). x * 2 + y)
-          (ap (λ (z : ℕ). bitXor z (g / 2)) (xor-shr n g 1) ∙ ih (g / 2))
-          (ap (λ (z : ℕ). differ z (g % 2)) (xor-mod n g 1) ∙ digits-back (n % 2) (g % 2) (mod-lt n (omega arith)) (mod-lt g (omega arith)))
-      ∙ div-add-mod' n 2)
+    xor-step (bitXor n g) g
+    ∙ ap₂ (λ (x y : ℕ). x * 2 + y)
+    (ap (λ (z : ℕ). bitXor z (g / 2)) (xor-shr n g 1) ∙ ih (g / 2))
+    (ap (λ (z : ℕ). differ z (g % 2)) (xor-mod n g 1) ∙ digits-back (n % 2) (g % 2) (mod-lt n (omega arith)) (mod-lt g (omega arith)))
+    ∙ div-add-mod' n 2)
 
 -- ---- an idle offer's differences in run g
 
@@ -99,8 +99,8 @@ module _ (t u : Trial) (g : ℕ) (idle : ℕ → Bool) (tt′ : Typed t) (ut : T
   idle-offer i h q =
       ext-getD (pos 0) (offer u i) (flipped g (offer t i)) (len ∙ keeps .pairs ∙ sym (offer-length t tt′ ta i h) ∙ sym (flipped-length g (offer t i)))
       (λ j l. let m : j < t .pairs = omega (arith, len, keeps .pairs) in
-        offer-at u ut ua i h′ j (omega (arith, len)) ∙ ex i j h m q ∙ ap (exchanged (inSet g j)) (sym (offer-at t tt′ ta i h j m))
-        ∙ sym (flipped-at g (offer t i) j (omega (arith, offer-length t tt′ ta i h))))
+      offer-at u ut ua i h′ j (omega (arith, len)) ∙ ex i j h m q ∙ ap (exchanged (inSet g j)) (sym (offer-at t tt′ ta i h j m))
+      ∙ sym (flipped-at g (offer t i) j (omega (arith, offer-length t tt′ ta i h))))
     where
       h′ : i < u .offers
       h′ = omega (arith, keeps .offers)
@@ -112,9 +112,9 @@ module _ (t u : Trial) (g : ℕ) (idle : ℕ → Bool) (tt′ : Typed t) (ut : T
   idle-row h =
       within-same (tabulate (t .offers) idle) (rowOf u h) (rowOf t (bitXor h g)) (rowOf-length u h ∙ keeps .offers ∙ sym (rowOf-length t (bitXor h g)))
       (λ i l q. let m : i < t .offers = omega (arith, rowOf-length u h, keeps .offers) in
-        row-at u ut ua i (omega (arith, rowOf-length u h)) h
-        ∙ ap (ofInt binary64) (ap (signedSum h) (idle-offer i m (subst (λ (b : Bool). T b) (tabulate-getD (t .offers) idle i false m) q)) ∙ signedSum-flipped h g (offer t i))
-        ∙ sym (row-at t tt′ ta i m (bitXor h g)))
+      row-at u ut ua i (omega (arith, rowOf-length u h)) h
+      ∙ ap (ofInt binary64) (ap (signedSum h) (idle-offer i m (subst (λ (b : Bool). T b) (tabulate-getD (t .offers) idle i false m) q)) ∙ signedSum-flipped h g (offer t i))
+      ∙ sym (row-at t tt′ ta i m (bitXor h g)))
 
 -- ---- the theorem
 
@@ -149,15 +149,16 @@ module _ (t : Trial) (idle : ℕ → Bool) (runs : ℕ → Trial) (typed : Typed
   tall = trialRows-length t
 
   member : (g : ℕ) → g < length (trialRows t) → Member (t .offers) (trialRows t) idle (replicate (t .offers) true) (trialRows (runs g)) 0 g
-  member g l = record
-      { sound = subst (λ (n : ℕ). Sound n (trialRows u)) (keeps g m .offers) (trialRows-sound u ua)
-      ; tall = own ∙ sym tall
-      ; broad = length-replicate (t .offers) true
-      ; lives = in-all (t .offers) idle
-      ; seen = omega (arith, own, rowTotal-some t)
-      ; rows = reordered (trialRows t) (trialRows u) (tabulate (t .offers) idle) (λ h. bitXor h g) (λ h. bitXor h g) (own ∙ sym tall)
-          (λ i r. omega (arith, tall, xor-total t i g (omega (arith, tall)) m)) (λ i r. xor-back i g) (λ h r. at-row h (omega (arith, tall)))
-      ; row = at-row 0 (rowTotal-some t) ∙ ap (λ (h : ℕ). within (tabulate (t .offers) idle) (getD (trialRows t) h [])) (xor-zero-l g) }
+  member g l = record {
+    sound = subst (λ (n : ℕ). Sound n (trialRows u)) (keeps g m .offers) (trialRows-sound u ua);
+    tall = own ∙ sym tall;
+    broad = length-replicate (t .offers) true;
+    lives = in-all (t .offers) idle;
+    seen = omega (arith, own, rowTotal-some t);
+    rows = reordered (trialRows t) (trialRows u) (tabulate (t .offers) idle) (λ h. bitXor h g) (λ h. bitXor h g) (own ∙ sym tall)
+        (λ i r. omega (arith, tall, xor-total t i g (omega (arith, tall)) m)) (λ i r. xor-back i g) (λ h r. at-row h (omega (arith, tall)));
+    row = at-row 0 (rowTotal-some t) ∙ ap (λ (h : ℕ). within (tabulate (t .offers) idle) (getD (trialRows t) h [])) (xor-zero-l g);
+  }
     where
       m : g < rowTotal t
       m = omega (arith, tall)
@@ -181,14 +182,17 @@ module _ (t : Trial) (idle : ℕ → Bool) (runs : ℕ → Trial) (typed : Typed
   by-rows =
       subst (λ (M : ℕ). runsThatReject (t .k) M idle (λ g. fullRun (replicate (t .offers) true) (trialRows (runs g)) (begun M (t .offers) (t .k) (t .a) (t .b) 0) .verdicts) ≤ allowance M (t .a) (t .b)) tall
       (general (t .offers) (t .k) (t .a) (t .b) (trialRows t) idle (λ _. replicate (t .offers) true) (λ g. trialRows (runs g)) (λ _. 0)
-        (trialRows-sound t acc) (acc .k-some) (subst (λ (M : ℕ). allowance M (t .a) (t .b) < M) (sym tall) (allowance-lt (rowTotal t) (t .a) (t .b) (rowTotal-some t) (acc .levelled .proper))) member)
+      (trialRows-sound t acc) (acc .k-some) (subst (λ (M : ℕ). allowance M (t .a) (t .b) < M) (sym tall) (allowance-lt (rowTotal t) (t .a) (t .b) (rowTotal-some t) (acc .levelled .proper))) member)
     where
       acc : Accepted t
       acc = accepted t ok
 
   pub trials : runsThatReject (t .k) (rowTotal t) idle (λ g. trialRun (runs g) .verdicts) ≤ allowance (rowTotal t) (t .a) (t .b)
   unfolding runsThatReject
-  trials = omega (arith, by-rows,
-      countBelow-le (rowTotal t) (λ g. leb (t .k) (rejectedAmong idle (trialRun (runs g) .verdicts)))
+  trials = omega (
+    arith,
+    by-rows,
+    countBelow-le (rowTotal t) (λ g. leb (t .k) (rejectedAmong idle (trialRun (runs g) .verdicts)))
         (λ g. leb (t .k) (rejectedAmong idle (fullRun (replicate (t .offers) true) (trialRows (runs g)) (begun (rowTotal t) (t .offers) (t .k) (t .a) (t .b) 0) .verdicts)))
-        (λ g l q. subst (λ (o : Outcome). T (leb (t .k) (rejectedAmong idle (o .verdicts)))) (trialRun-keeps t (runs g) (keeps g l)) q))
+        (λ g l q. subst (λ (o : Outcome). T (leb (t .k) (rejectedAmong idle (o .verdicts)))) (trialRun-keeps t (runs g) (keeps g l)) q),
+  )

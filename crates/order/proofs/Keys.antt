@@ -49,7 +49,7 @@ fits-down f s zero (pos k) t = pow-pos (low f)
 fits-down f s zero (negsuc k) t = omega (arith, eqb→eq (1 * 2 ^ suc k) 1 t, pow-pos (low f))
 fits-down f s (suc m) e t =
     leb→le (down e) (2 ^ low f) (and-r (eqb (suc m % 2) 1 && ltb (suc m) (2 ^ prec f)) (leb (down e) (2 ^ low f))
-      (and-l (eqb (suc m % 2) 1 && ltb (suc m) (2 ^ prec f) && leb (down e) (2 ^ low f)) (ltb (suc m * up e) (2 ^ suc (emax f) * down e)) t))
+    (and-l (eqb (suc m % 2) 1 && ltb (suc m) (2 ^ prec f) && leb (down e) (2 ^ low f)) (ltb (suc m * up e) (2 ^ suc (emax f) * down e)) t))
 
 fits-under : (f : Format) (s : Bool) (m : ℕ) (e : ℤ) → T (fits f (fin s m e)) → m * up e < 2 ^ suc (emax f) * down e
 unfolding fits
@@ -70,9 +70,10 @@ mag-lt f s m e t =
 -- ---- the order of two fractions over D is that of their whole numbers
 
 cross : (a b x y D L : ℕ) → 0 < D → 0 < L → a * L ≡ x * D → b * L ≡ y * D → (a < b) ↔ (x < y)
-cross a b x y D L d l p q =
-    (λ h. lt-of-mul-lt-mul-right D (rw (← p, ← q) (mul-lt-mul-of-pos-right h l)),
-     λ h. lt-of-mul-lt-mul-right L (rw (p, q) (mul-lt-mul-of-pos-right h d)))
+cross a b x y D L d l p q = (
+  λ h. lt-of-mul-lt-mul-right D (rw (← p, ← q) (mul-lt-mul-of-pos-right h l)),
+  λ h. lt-of-mul-lt-mul-right L (rw (p, q) (mul-lt-mul-of-pos-right h d)),
+)
 
 below-key : (s t : Bool) (a b x y B : ℕ) → (a < b) ↔ (x < y) → (b < a) ↔ (y < x) → (0 < a + b) ↔ (0 < x + y) → x < B → y < B → below s a t b ≡ ltb (signed B s x) (signed B t y)
 below-key false false a b x y B h g k xB yB = iff-ltb a b (B + x) (B + y) (λ q. omega (arith, h .0 q), λ q. h .1 (omega arith))
@@ -88,11 +89,11 @@ fin-key f s m e r n d t u =
     let D = down e * down d in
     let P : 0 < D = mul-pos (down-pos e) (down-pos d) in
     let va : m * up e * down d * L ≡ mag f m e * D =
-          simp (mul-assoc, mul-comm) (simp (mul-assoc, mul-comm, mul-left-comm) at (ap (λ (z : ℕ). z * down d) (sym (mag-val f s m e t)))) in
+    simp (mul-assoc, mul-comm) (simp (mul-assoc, mul-comm, mul-left-comm) at (ap (λ (z : ℕ). z * down d) (sym (mag-val f s m e t)))) in
     let vb : n * up d * down e * L ≡ mag f n d * D =
-          simp (mul-assoc, mul-comm) (simp (mul-assoc, mul-comm, mul-left-comm) at (ap (λ (z : ℕ). z * down e) (sym (mag-val f r n d u)))) in
+    simp (mul-assoc, mul-comm) (simp (mul-assoc, mul-comm, mul-left-comm) at (ap (λ (z : ℕ). z * down e) (sym (mag-val f r n d u)))) in
     let vs : (m * up e * down d + n * up d * down e) * L ≡ (mag f m e + mag f n d) * D =
-          add-mul (m * up e * down d) (n * up d * down e) L ∙ ap₂ (λ (x y : ℕ). x + y) va vb ∙ sym (add-mul (mag f m e) (mag f n d) D) in
+    add-mul (m * up e * down d) (n * up d * down e) L ∙ ap₂ (λ (x y : ℕ). x + y) va vb ∙ sym (add-mul (mag f m e) (mag f n d) D) in
     below-key s r (m * up e * down d) (n * up d * down e) (mag f m e) (mag f n d) (overflow f)
     (cross (m * up e * down d) (n * up d * down e) (mag f m e) (mag f n d) D L P (pow-pos (low f)) va vb)
     (cross (n * up d * down e) (m * up e * down d) (mag f n d) (mag f m e) D L P (pow-pos (low f)) vb va)
@@ -221,8 +222,8 @@ no-mag : (f : Format) (s : Bool) (m : ℕ) (e : ℤ) → T (fits f (fin s m e)) 
 no-mag f s zero e t h = refl
 no-mag f s (suc m) e t h =
     absurd (let p : 0 < suc m * up e * 2 ^ low f = mul-pos (mul-pos (omega arith) (lib.Ieee.Fits.up-pos e)) (pow-pos (low f)) in
-      let q : mag f (suc m) e * down e ≡ 0 = ap (λ (z : ℕ). z * down e) h ∙ zero-mul (down e) in
-      omega (arith, mag-val f s (suc m) e t, p, q))
+    let q : mag f (suc m) e * down e ≡ 0 = ap (λ (z : ℕ). z * down e) h ∙ zero-mul (down e) in
+    omega (arith, mag-val f s (suc m) e t, p, q))
 
 either-zero : (s t : Bool) (m n : ℕ) (e d : ℤ) → m ≡ 0 → n ≡ 0 → unsigned (fin s m e) ≡ unsigned (fin t n d)
 unfolding unsigned

@@ -38,9 +38,12 @@ from-is xs v fs f = count-same finite (λ x. atMost v x) (λ x. leb (key v) (key
 
 pub under-is : (xs : List Float) (v : Float) → Finite xs → T (finite v) → count (λ x. smaller x v) xs + from (key v) xs ≡ length xs
 under-is xs v fs f =
-    omega (arith, count-same finite (λ x. smaller x v) (λ x. ltb (key x) (key v)) xs (λ x g. smaller-key x v g f) fs,
+    omega (
+      arith,
+      count-same finite (λ x. smaller x v) (λ x. ltb (key x) (key v)) xs (λ x g. smaller-key x v g f) fs,
       count-same-all (λ x. leb (key v) (key x)) (λ x. not (ltb (key x) (key v))) xs (λ x. leb-not (key v) (key x)),
-      count-not (λ x. ltb (key x) (key v)) xs)
+      count-not (λ x. ltb (key x) (key v)) xs,
+    )
 
 pub keys-upTo : (xs : List Float) (v : ℕ) → count (λ x. leb (key x) v) xs + above v xs ≡ length xs
 keys-upTo xs v = omega (arith, count-same-all (λ x. leb (key x) v) (λ x. not (ltb v (key x))) xs (λ x. leb-not (key x) v), count-not (λ x. ltb v (key x)) xs)
@@ -119,12 +122,15 @@ module _ (k : ℕ) (xs : List Float) (fs : Finite xs) where
           let v = l .place in
           let low : above v xs < k = not-within k (above v xs) (λ g. l .after (le→leb k (above v xs) g)) in
           let high : k ≤ from v xs = leb→le k (from v xs) (l .here) in
-          omega (arith, count-both (λ x. leb v (key x)) (λ x. ltb v (key x)) (λ x. eqb v (key x)) xs (λ x. eq-split v (key x)),
+          omega (
+            arith,
+            count-both (λ x. leb v (key x)) (λ x. ltb v (key x)) (λ x. eqb v (key x)) xs (λ x. eq-split v (key x)),
             count-le finite (λ x. eqb v (key x)) (fromTop k xs) xs
-              (λ x f t. let e : v ≡ key x = eqb→eq v (key x) t in
+                (λ x f t. let e : v ≡ key x = eqb→eq v (key x) t in
                 subst (λ (b : Bool). T b) (sym (fromTop-is x f))
                 (rank-T (above (key x) xs) (from (key x) xs) k (omega (arith, ap (λ (n : ℕ). above n xs) e)) (omega (arith, ap (λ (n : ℕ). from n xs) e))))
-              fs)
+                fs,
+          )
 
 -- what holds of each member that passes, with plus zero for either zero, holds of the first
 pub first-holds : (P : Float → Type 0) (r p : Float → Bool) (xs : List Float) → T (all r xs) → 0 < count p xs → ((x : Float) → T (r x) → T (p x) → P (unsigned x)) → P (firstThat p xs)
@@ -157,11 +163,12 @@ module _ (k : ℕ) (xs : List Float) (fs : Finite xs) (pos : 0 < k) (held : k �
   kthLargest-ranks = first-holds (Ranks k xs) finite (fromTop k xs) xs fs (ranked k xs fs pos held) (λ x f t. there x f (subst (λ (b : Bool). T b) (fromTop-is k xs fs x f) t))
     where
       there : (x : Float) → T (finite x) → T (ltb (above (key x) xs) k && leb k (from (key x) xs)) → Ranks k xs (unsigned x)
-      there x f t = record
-        { finitely = unsigned-finite x f
-        ; plain = unsigned-twice x
-        ; few = rw (unsigned-key x) (rank-few (above (key x) xs) (from (key x) xs) k t)
-        ; enough = rw (unsigned-key x) (rank-enough (above (key x) xs) (from (key x) xs) k t) }
+      there x f t = record {
+        finitely = unsigned-finite x f;
+        plain = unsigned-twice x;
+        few = rw (unsigned-key x) (rank-few (above (key x) xs) (from (key x) xs) k t);
+        enough = rw (unsigned-key x) (rank-enough (above (key x) xs) (from (key x) xs) k t);
+      }
 
   -- what holds of every member, with plus zero for either zero, holds of the k-th largest
   pub kthLargest-holds : (p : Float → Bool) → T (all (λ x. p (unsigned x)) xs) → T (p (kthLargest k xs))
@@ -169,9 +176,10 @@ module _ (k : ℕ) (xs : List Float) (fs : Finite xs) (pos : 0 < k) (held : k �
   kthLargest-holds p t = first-holds (λ x. T (p x)) (λ x. p (unsigned x)) (fromTop k xs) xs t (ranked k xs fs pos held) (λ x h g. h)
 
   pub kthLargest-law : (v : ℕ) → (v < key (kthLargest k xs)) ↔ (k ≤ above v xs)
-  kthLargest-law v =
-      (λ h. omega (arith, kthLargest-ranks .enough, from-above xs v (key (kthLargest k xs)) h),
-       λ h. not-within (key (kthLargest k xs)) v (λ g. omega (arith, kthLargest-ranks .few, above-falls xs (key (kthLargest k xs)) v (omega arith))))
+  kthLargest-law v = (
+    λ h. omega (arith, kthLargest-ranks .enough, from-above xs v (key (kthLargest k xs)) h),
+    λ h. not-within (key (kthLargest k xs)) v (λ g. omega (arith, kthLargest-ranks .few, above-falls xs (key (kthLargest k xs)) v (omega arith))),
+  )
 
   -- whatever ranks so is the k-th largest
   pub kthLargest-is : (w : Float) → Ranks k xs w → w ≡ kthLargest k xs
@@ -179,9 +187,11 @@ module _ (k : ℕ) (xs : List Float) (fs : Finite xs) (pos : 0 < k) (held : k �
       sym (r .plain) ∙ unsigned-same w (kthLargest k xs) (r .finitely) (kthLargest-ranks .finitely) same ∙ kthLargest-ranks .plain
     where
       same : key w ≡ key (kthLargest k xs)
-      same = omega (arith,
+      same = omega (
+        arith,
         not-below (key w) (key (kthLargest k xs)) (λ g. omega (arith, r .few, kthLargest-law (key w) .0 g)),
-        not-below (key (kthLargest k xs)) (key w) (λ g. omega (arith, kthLargest-ranks .few, r .enough, from-above xs (key (kthLargest k xs)) (key w) g)))
+        not-below (key (kthLargest k xs)) (key w) (λ g. omega (arith, kthLargest-ranks .few, r .enough, from-above xs (key (kthLargest k xs)) (key w) g)),
+      )
 
 -- ---- the m-th smallest of n is the (n + 1 - m)-th largest
 
@@ -205,7 +215,7 @@ module _ (m : ℕ) (xs : List Float) (fs : Finite xs) (pos : 0 < m) (held : m �
 
   pub mthSmallest-law : (v : ℕ) → (v < key (mthSmallest m xs)) ↔ (count (λ x. leb (key x) v) xs < m)
   mthSmallest-law v = rw mthSmallest-top
-    (λ h. omega (arith, keys-upTo xs v, law .0 h), λ h. law .1 (omega (arith, keys-upTo xs v)))
+      (λ h. omega (arith, keys-upTo xs v, law .0 h), λ h. law .1 (omega (arith, keys-upTo xs v)))
     where
       law : (v < key (kthLargest (suc (length xs) - m) xs)) ↔ (suc (length xs) - m ≤ above v xs)
       law = kthLargest-law (suc (length xs) - m) xs fs (omega arith) (omega arith) v

@@ -93,9 +93,10 @@ pub accepted : (t : List Float) (rows columns k a b observed : ℕ) → tableRef
 unfolding tableRefusal tableChecks badValue all
 accepted t rows columns k a b observed h =
     let f : NoneHolds (tableChecks t rows columns k a b observed) = none-holds (tableChecks t rows columns k a b observed) tt h in
-    record
-      { shaped = shape rows columns k (f .0)
-      ; levelled = level a b (f .1 .0)
-      ; full = eqb-true (length t) (rows * columns) (not-false (eqb (length t) (rows * columns)) (f .1 .1 .0))
-      ; seen = leb-false rows observed (f .1 .1 .1 .0)
-      ; finitely = true-T (all finite t) (not-false (all finite t) (f .1 .1 .1 .1 .0)) }
+    record {
+      shaped = shape rows columns k (f .0);
+      levelled = level a b (f .1 .0);
+      full = eqb-true (length t) (rows * columns) (not-false (eqb (length t) (rows * columns)) (f .1 .1 .0));
+      seen = leb-false rows observed (f .1 .1 .1 .0);
+      finitely = true-T (all finite t) (not-false (all finite t) (f .1 .1 .1 .1 .0));
+    }

@@ -150,13 +150,14 @@ module _ (t : List Float) (r : Run) (g : Going t r) where
 
   pub walk-start : (m : ℕ) → m ≡ every (r .columns) → Walk (r .columns) (r .k) (m - r .rejected) (r .rejected) 0 (r .k - 1)
   unfolding rejectedSet
-  walk-start m e = record
-    { place = omega arith
-    ; inside = omega (arith, pow-pos (r .columns))
-    ; rests = let z : r .columns - 0 ≡ r .columns = omega arith in subst (λ (n : ℕ). r .rejected < 2 ^ n) (sym z) (g .inside)
-    ; apart = λ j u. let z : r .columns - 0 ≡ r .columns = omega arith in let y : 0 + j ≡ j = omega arith in
-        ap₂ (λ (K : Columns) (i : ℕ). has K i) left-now y ∙ apart j (subst (λ (n : ℕ). T (has (columnsOf n (r .rejected)) j)) z u)
-    ; many = omega (arith, ap size left-now, size-sum, g .some) }
+  walk-start m e = record {
+    place = omega arith;
+    inside = omega (arith, pow-pos (r .columns));
+    rests = let z : r .columns - 0 ≡ r .columns = omega arith in subst (λ (n : ℕ). r .rejected < 2 ^ n) (sym z) (g .inside);
+    apart = λ j u. let z : r .columns - 0 ≡ r .columns = omega arith in let y : 0 + j ≡ j = omega arith in
+        ap₂ (λ (K : Columns) (i : ℕ). has K i) left-now y ∙ apart j (subst (λ (n : ℕ). T (has (columnsOf n (r .rejected)) j)) z u);
+    many = omega (arith, ap size left-now, size-sum, g .some);
+  }
     where
       left-now : columnsOf (r .columns) (m - r .rejected) ≡ leftOver live r
       left-now = ap (λ (n : ℕ). columnsOf (r .columns) (n - r .rejected)) e ∙ left-is
@@ -176,7 +177,7 @@ module _ (t : List Float) (r : Run) (g : Going t r) where
     new-is : new ≡ maskOf (newly live X r)
     unfolding X live
     new-is = n ∙ ap maskOf
-      (ap₂ (λ (x : ℕ) (y : List Float). columnsOf x (m - r .rejected) ∩ over c y) (ap length w ∙ seen-length live X r sound fit ∙ wide) w
+        (ap₂ (λ (x : ℕ) (y : List Float). columnsOf x (m - r .rejected) ∩ over c y) (ap length w ∙ seen-length live X r sound fit ∙ wide) w
         ∙ ap₂ (λ (x : ℕ) (y : Float). columnsOf (r .columns) (x - r .rejected) ∩ over y (seenRow X r)) e v
         ∙ ap (λ (K : Columns). K ∩ over (barOf live X r) (seenRow X r)) left-is ∙ sym (newly-is live X r sound fit))
 
@@ -196,7 +197,7 @@ module _ (t : List Float) (r : Run) (g : Going t r) where
 
     pub new-fits : r .rejected + new < 2 ^ (r .columns)
     new-fits = subst (λ (x : ℕ). x < 2 ^ (r .columns)) (sym union-is)
-      (subst (λ (x : ℕ). maskOf (rejectedSet r ∪ newly live X r) < 2 ^ x) (length-∪ (rejectedSet r) (newly live X r) even ∙ R-length) (maskOf-lt (rejectedSet r ∪ newly live X r)))
+        (subst (λ (x : ℕ). maskOf (rejectedSet r ∪ newly live X r) < 2 ^ x) (length-∪ (rejectedSet r) (newly live X r) even ∙ R-length) (maskOf-lt (rejectedSet r ∪ newly live X r)))
 
     union-columns : columnsOf (r .columns) (r .rejected + new) ≡ rejectedSet r ∪ newly live X r
     union-columns = ap₂ (λ (x y : ℕ). columnsOf x y) (sym len) union-is ∙ columnsOf-maskOf (rejectedSet r ∪ newly live X r)
@@ -221,13 +222,15 @@ module _ (t : List Float) (r : Run) (g : Going t r) where
         rest-none a (suc b) z q = ne-eqb a z (λ y. omega arith) ∙ sym (ne-eqb (suc b) 0 (λ y. omega arith))
 
     pub advance-is : (b : Bool) → b ≡ stops (r .columns) (r .k) new (r .rejected + new)
-        → record
-          { run = record { rows = r .rows; columns = r .columns; k = r .k; a = r .a; b = r .b; observed = r .observed; rejected = r .rejected + new; steps = r .steps + 1; ended = b }
-          ; mark = record { step = r .steps + 1; critical = c } } ≡ advanced t r
+        → record {
+          run = record { rows = r .rows; columns = r .columns; k = r .k; a = r .a; b = r .b; observed = r .observed; rejected = r .rejected + new; steps = r .steps + 1; ended = b };
+          mark = record { step = r .steps + 1; critical = c };
+        } ≡ advanced t r
     unfolding advanced after next recordOf X live
-    advance-is b s = λ i. record
-      { run = record { rows = r .rows; columns = r .columns; k = r .k; a = r .a; b = r .b; observed = r .observed; rejected = union-is i; steps = r .steps + 1; ended = (s ∙ stops-is) i }
-      ; mark = record { step = r .steps + 1; critical = v i } }
+    advance-is b s = λ i. record {
+      run = record { rows = r .rows; columns = r .columns; k = r .k; a = r .a; b = r .b; observed = r .observed; rejected = union-is i; steps = r .steps + 1; ended = (s ∙ stops-is) i };
+      mark = record { step = r .steps + 1; critical = v i };
+    }
 
 -- ---- whether the step ends the run
 
@@ -259,8 +262,8 @@ module _ (t : List Float) (r : Run) (g : Going t r) where
   pub after-inside : after (everyColumn (r .columns)) (rowsOf (r .rows) (r .columns) t) r .rejected < 2 ^ (r .columns)
   unfolding after next
   after-inside = subst (λ (n : ℕ). maskOf (rejectedSet r ∪ newly (everyColumn (r .columns)) (rowsOf (r .rows) (r .columns) t) r) < 2 ^ n)
-    (length-∪ (rejectedSet r) (newly (everyColumn (r .columns)) (rowsOf (r .rows) (r .columns) t) r) (rejected-length _ _ r run-sound run-fitting ∙ sym (newly-length _ _ r run-sound run-fitting)) ∙ rejected-length _ _ r run-sound run-fitting ∙ length-replicate (r .columns) true)
-    (maskOf-lt (rejectedSet r ∪ newly (everyColumn (r .columns)) (rowsOf (r .rows) (r .columns) t) r))
+      (length-∪ (rejectedSet r) (newly (everyColumn (r .columns)) (rowsOf (r .rows) (r .columns) t) r) (rejected-length _ _ r run-sound run-fitting ∙ sym (newly-length _ _ r run-sound run-fitting)) ∙ rejected-length _ _ r run-sound run-fitting ∙ length-replicate (r .columns) true)
+      (maskOf-lt (rejectedSet r ∪ newly (everyColumn (r .columns)) (rowsOf (r .rows) (r .columns) t) r))
 
   pub after-some : 0 < size (leftOver (everyColumn (r .columns)) (after (everyColumn (r .columns)) (rowsOf (r .rows) (r .columns) t) r)) → size (rejectedSet (after (everyColumn (r .columns)) (rowsOf (r .rows) (r .columns) t) r)) < r .columns
   after-some p = omega (arith, total)

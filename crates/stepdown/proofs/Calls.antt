@@ -57,12 +57,13 @@ progress r h d =
     let b = or-none (ltb 32 (r .steps)) (start || (late || few)) (a .1) in
     let s = or-none start (late || few) (b .1) in
     let l = or-none late few (s .1) in
-    record
-      { inside = leb-false (2 ^ (r .columns)) (r .rejected) (a .0)
-      ; steps-most = ltb-false 32 (r .steps) (b .0)
-      ; fresh = λ z. fresh-of (eqb (r .rejected) 0) (eqb-true (r .rejected) 0) (ap (λ (x : Bool). x && (not (eqb (r .rejected) 0) || r .ended)) (sym (eq-eqb (r .steps) 0 z)) ∙ s .0)
-      ; many = λ p. ltb-false n (r .k) (or-none (ltb n (r .k)) (leb (r .columns) n) (going n p (l .1)) .0)
-      ; room = λ p. leb-false (r .columns) n (or-none (ltb n (r .k)) (leb (r .columns) n) (going n p (l .1)) .1) }
+    record {
+      inside = leb-false (2 ^ (r .columns)) (r .rejected) (a .0);
+      steps-most = ltb-false 32 (r .steps) (b .0);
+      fresh = λ z. fresh-of (eqb (r .rejected) 0) (eqb-true (r .rejected) 0) (ap (λ (x : Bool). x && (not (eqb (r .rejected) 0) || r .ended)) (sym (eq-eqb (r .steps) 0 z)) ∙ s .0);
+      many = λ p. ltb-false n (r .k) (or-none (ltb n (r .k)) (leb (r .columns) n) (going n p (l .1)) .0);
+      room = λ p. leb-false (r .columns) n (or-none (ltb n (r .k)) (leb (r .columns) n) (going n p (l .1)) .1);
+    }
   where
     fresh-of : (x : Bool) → (x ≡ true → r .rejected ≡ 0) → (true && (not x || r .ended)) ≡ false → r .rejected ≡ 0
     fresh-of true f e = f refl
@@ -88,24 +89,26 @@ module _ (t : List Float) (r : Run) (places : ℕ) (h : stepRefusal t r places �
   step-known =
       let f = figures r (spoiled-none r (none .0) .0) in
       let p = progress r (spoiled-none r (none .0) .1) (none .1 .0) in
-      record
-        { ready = record
-            { rows-most = f .shaped .rows-most
-            ; cols-most = f .shaped .columns-most
-            ; full = eqb-true (length t) (r .rows * r .columns) (not-false (eqb (length t) (r .rows * r .columns)) (none .1 .1 .0))
-            ; finitely = true-T (all finite t) (not-false (all finite t) (none .1 .1 .1 .0))
-            ; k-some = f .shaped .k-some
-            ; k-most = f .shaped .k-most }
-        ; rows-some = f .shaped .rows-some
-        ; held = f .shaped .k-held
-        ; proper = f .levelled .proper
-        ; b-most = f .levelled .b-most
-        ; seen = f .seen
-        ; inside = p .inside
-        ; steps-most = p .steps-most
-        ; fresh = p .fresh
-        ; many = p .many
-        ; some = room-of f p (decLe 1 (r .steps)) }
+      record {
+        ready = record {
+          rows-most = f .shaped .rows-most;
+          cols-most = f .shaped .columns-most;
+          full = eqb-true (length t) (r .rows * r .columns) (not-false (eqb (length t) (r .rows * r .columns)) (none .1 .1 .0));
+          finitely = true-T (all finite t) (not-false (all finite t) (none .1 .1 .1 .0));
+          k-some = f .shaped .k-some;
+          k-most = f .shaped .k-most;
+        };
+        rows-some = f .shaped .rows-some;
+        held = f .shaped .k-held;
+        proper = f .levelled .proper;
+        b-most = f .levelled .b-most;
+        seen = f .seen;
+        inside = p .inside;
+        steps-most = p .steps-most;
+        fresh = p .fresh;
+        many = p .many;
+        some = room-of f p (decLe 1 (r .steps));
+      }
     where
       room-of : Figures r → Progress r → Dec (0 < r .steps) → size (columnsOf (r .columns) (r .rejected)) < r .columns
       room-of f p (yes q) = p .room q
@@ -133,31 +136,33 @@ module _ (t : List Float) (rows columns k a b observed places : ℕ) (h : tableR
   unfolding conditions badValue
   table-ready =
       let s = shape rows columns k (clear .0) in
-      record
-        { rows-most = s .rows-most
-        ; cols-most = s .columns-most
-        ; full = eqb-true (length t) (rows * columns) (not-false (eqb (length t) (rows * columns)) (clear .1 .1 .0))
-        ; finitely = true-T (all finite t) (not-false (all finite t) (clear .1 .1 .1 .1 .0))
-        ; k-some = s .k-some
-        ; k-most = s .k-most }
+      record {
+        rows-most = s .rows-most;
+        cols-most = s .columns-most;
+        full = eqb-true (length t) (rows * columns) (not-false (eqb (length t) (rows * columns)) (clear .1 .1 .0));
+        finitely = true-T (all finite t) (not-false (all finite t) (clear .1 .1 .1 .1 .0));
+        k-some = s .k-some;
+        k-most = s .k-most;
+      }
 
   pub table-known : Going t (begun rows columns k a b observed)
   unfolding conditions rejectedSet
   table-known =
       let s = shape rows columns k (clear .0) in
       let l = level a b (clear .1 .0) in
-      record
-        { ready = table-ready
-        ; rows-some = s .rows-some
-        ; held = s .k-held
-        ; proper = l .proper
-        ; b-most = l .b-most
-        ; seen = table-seen
-        ; inside = pow-pos columns
-        ; steps-most = omega arith
-        ; fresh = λ _. refl
-        ; many = λ p. absurd (omega arith)
-        ; some = omega (arith, s .columns-some, empty-size columns) }
+      record {
+        ready = table-ready;
+        rows-some = s .rows-some;
+        held = s .k-held;
+        proper = l .proper;
+        b-most = l .b-most;
+        seen = table-seen;
+        inside = pow-pos columns;
+        steps-most = omega arith;
+        fresh = λ _. refl;
+        many = λ p. absurd (omega arith);
+        some = omega (arith, s .columns-some, empty-size columns);
+      }
 
 -- ---- beginning
 

@@ -83,15 +83,21 @@ module _ (n k e : ℕ) (X : List (List Float)) (s : Sound n X) (pos : 0 < k) (fe
   pub criticalValue-mono : (K L : Columns) → length K ≡ n → K ⊆ L → k ≤ size K → key (criticalValue k e X K) ≤ key (criticalValue k e X L)
   criticalValue-mono K L h sub wide = not-below (key (criticalValue k e X L)) (key (criticalValue k e X K)) (λ g.
       let v = key (criticalValue k e X L) in
-      let b : v < v = criticalValue-law L v .1 (omega (arith, criticalValue-law K v .0 g,
-            count-le (soundRow n) (λ row. ltb v (key (kMax k K row))) (λ row. ltb v (key (kMax k L row))) X (row-mono v) s)) in
+      let b : v < v = criticalValue-law L v .1 (omega (
+        arith,
+        criticalValue-law K v .0 g,
+        count-le (soundRow n) (λ row. ltb v (key (kMax k K row))) (λ row. ltb v (key (kMax k L row))) X (row-mono v) s,
+      )) in
       omega arith)
     where
       row-mono : (v : ℕ) (row : List Float) → T (soundRow n row) → T (ltb v (key (kMax k K row))) → T (ltb v (key (kMax k L row)))
       row-mono v row t u = lt→ltb v (key (kMax k L row))
-        (kMax-law k L row (subst (λ (m : ℕ). T (soundRow m row)) (sym h ∙ ⊆-length sub) t) pos (omega (arith, size-mono sub)) v .1
-          (omega (arith, within-mono (λ x. ltb v (key x)) row sub,
-            kMax-law k K row (subst (λ (m : ℕ). T (soundRow m row)) (sym h) t) pos wide v .0 (ltb→lt v (key (kMax k K row)) u))))
+          (kMax-law k L row (subst (λ (m : ℕ). T (soundRow m row)) (sym h ∙ ⊆-length sub) t) pos (omega (arith, size-mono sub)) v .1
+          (omega (
+            arith,
+            within-mono (λ x. ltb v (key x)) row sub,
+            kMax-law k K row (subst (λ (m : ℕ). T (soundRow m row)) (sym h) t) pos wide v .0 (ltb→lt v (key (kMax k K row)) u),
+          )))
 
   -- c(K) is a value of the table, with plus zero for either zero: what holds of all of those holds of it
   pub criticalValue-holds : (K : Columns) → length K ≡ n → k ≤ size K → (p : Float → Bool) → T (all (λ row. all (λ x. p (unsigned x)) row) X) → T (p (criticalValue k e X K))
@@ -99,9 +105,9 @@ module _ (n k e : ℕ) (X : List (List Float)) (s : Sound n X) (pos : 0 < k) (fe
   criticalValue-holds K h wide p t =
       mthSmallest-holds (length X - e) (tops k X K) (tops-finite n k X K s) (omega arith) (omega (arith, length-map X (λ row. kMax k K row))) p
       (rw (all-map (λ row. kMax k K row) (λ x. p (unsigned x)) X)
-        (all-le (λ row. soundRow n row && all (λ x. p (unsigned x)) row) (λ row. p (unsigned (kMax k K row))) X
-          (λ row b. in-row row (subst (λ (m : ℕ). T (soundRow m row)) (sym h) (and-left (soundRow n row) (all (λ x. p (unsigned x)) row) b)) (and-right (soundRow n row) (all (λ x. p (unsigned x)) row) b))
-          (all-both (soundRow n) (λ row. all (λ x. p (unsigned x)) row) X s t)))
+      (all-le (λ row. soundRow n row && all (λ x. p (unsigned x)) row) (λ row. p (unsigned (kMax k K row))) X
+      (λ row b. in-row row (subst (λ (m : ℕ). T (soundRow m row)) (sym h) (and-left (soundRow n row) (all (λ x. p (unsigned x)) row) b)) (and-right (soundRow n row) (all (λ x. p (unsigned x)) row) b))
+      (all-both (soundRow n) (λ row. all (λ x. p (unsigned x)) row) X s t)))
     where
       in-row : (row : List Float) → T (soundRow (length K) row) → T (all (λ x. p (unsigned x)) row) → T (p (unsigned (kMax k K row)))
       in-row row b u = rw (kMax-plain k K row b pos wide) (kMax-holds k K row b pos wide p u)
@@ -111,7 +117,7 @@ module _ (n k e : ℕ) (X : List (List Float)) (s : Sound n X) (pos : 0 < k) (fe
 module _ (n k e : ℕ) (X : List (List Float)) (s : Sound n X) (A R : Columns) where
   pub sets-finite : Finite (map (λ I. criticalValue k e X (A ∪ I)) (choose (k - 1) R))
   sets-finite = rw (all-map (λ I. criticalValue k e X (A ∪ I)) finite (choose (k - 1) R))
-    (all-le (λ _. true) (λ I. finite (criticalValue k e X (A ∪ I))) (choose (k - 1) R) (λ I t. criticalValue-finite n k e X (A ∪ I) s) (all-true (choose (k - 1) R)))
+      (all-le (λ _. true) (λ I. finite (criticalValue k e X (A ∪ I))) (choose (k - 1) R) (λ I t. criticalValue-finite n k e X (A ∪ I) s) (all-true (choose (k - 1) R)))
 
   pub putBack-finite : T (finite (putBack k e X A R))
   unfolding putBack
@@ -121,13 +127,13 @@ module _ (n k e : ℕ) (X : List (List Float)) (s : Sound n X) (A R : Columns) w
   pub putBack-reaches : (v : ℕ) → 0 < count (λ I. leb v (key (criticalValue k e X (A ∪ I)))) (choose (k - 1) R) → v ≤ key (putBack k e X A R)
   unfolding putBack
   putBack-reaches v h = largest-reaches (map (λ I. criticalValue k e X (A ∪ I)) (choose (k - 1) R)) sets-finite v
-    (rw (count-map (λ I. criticalValue k e X (A ∪ I)) (λ x. leb v (key x)) (choose (k - 1) R)) h)
+      (rw (count-map (λ I. criticalValue k e X (A ∪ I)) (λ x. leb v (key x)) (choose (k - 1) R)) h)
 
   -- what bounds all sets, of which there is one, bounds the largest
   pub putBack-under : (v : ℕ) → 0 < length (choose (k - 1) R) → T (all (λ I. leb (key (criticalValue k e X (A ∪ I))) v) (choose (k - 1) R)) → key (putBack k e X A R) ≤ v
   unfolding putBack
   putBack-under v h t = leb→le (key (kthLargest 1 (map (λ I. criticalValue k e X (A ∪ I)) (choose (k - 1) R)))) v
-    (kthLargest-holds 1 (map (λ I. criticalValue k e X (A ∪ I)) (choose (k - 1) R)) sets-finite (omega arith) (omega (arith, length-map (choose (k - 1) R) (λ I. criticalValue k e X (A ∪ I)))) (λ x. leb (key x) v)
+      (kthLargest-holds 1 (map (λ I. criticalValue k e X (A ∪ I)) (choose (k - 1) R)) sets-finite (omega arith) (omega (arith, length-map (choose (k - 1) R) (λ I. criticalValue k e X (A ∪ I)))) (λ x. leb (key x) v)
       (rw (all-map (λ I. criticalValue k e X (A ∪ I)) (λ x. leb (key (unsigned x)) v) (choose (k - 1) R))
-        (all-le (λ I. leb (key (criticalValue k e X (A ∪ I))) v) (λ I. leb (key (unsigned (criticalValue k e X (A ∪ I)))) v) (choose (k - 1) R)
-          (λ I u. rw (unsigned-key (criticalValue k e X (A ∪ I))) u) t)))
+      (all-le (λ I. leb (key (criticalValue k e X (A ∪ I))) v) (λ I. leb (key (unsigned (criticalValue k e X (A ∪ I)))) v) (choose (k - 1) R)
+      (λ I u. rw (unsigned-key (criticalValue k e X (A ∪ I))) u) t)))

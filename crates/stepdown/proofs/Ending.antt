@@ -49,7 +49,7 @@ module _ (live : Columns) (X : List (List Float)) (sound : Sound (length live) X
       ap (λ (R : Columns). size (live ∖ R) + size (newly live X r)) (after-rejected live X r sound fit)
       ∙ ap (λ (new : Columns). size (live ∖ (rejectedSet r ∪ new)) + size new) (newly-is live X r sound fit)
       ∙ leave live (rejectedSet r) (over (barOf live X r) (seenRow X r))
-          (rejected-length live X r sound fit ∙ sym (over-length (barOf live X r) (seenRow X r) ∙ seen-length live X r sound fit))
+      (rejected-length live X r sound fit ∙ sym (over-length (barOf live X r) (seenRow X r) ∙ seen-length live X r sound fit))
 
   ends : (m : ℕ) (b : Bool) (r : Run) → r .ended ≡ b → Fitting live X r → (b ≡ false → 0 < size (leftOver live r)) → size (leftOver live r) ≤ m → lastRun r (stepsFrom m b live X r) .ended ≡ true
   unfolding stepsFrom lastRun

@@ -63,8 +63,8 @@ module _ (live R R′ I′ : Columns) (h : length R ≡ length live) (h′ : len
   put-under : (I : Columns) → (I′ ∩ R) ⊆ I → ((live ∖ R′) ∪ I′) ⊆ ((live ∖ R) ∪ I)
   put-under I s = ⊆-by ((live ∖ R′) ∪ I′) ((live ∖ R) ∪ I) (⊆-length put-in ∙ sym (length-∪ (live ∖ R) I even ∙ length-∖ live R (sym h)))
       (λ j t. subst (λ (b : Bool). T b) (sym (has-∪ (live ∖ R) I even j ∙ ap (λ (b : Bool). b || has I j) (has-∖ live R (sym h) j)))
-        (go (has live j) (has R j) (has R′ j) (has I′ j) (has I j) (⊆-at sub j) (⊆-at put-in j t) (λ u. ⊆-at s j (subst (λ (b : Bool). T b) (sym (has-∩ I′ R short j)) u))
-          (subst (λ (b : Bool). T b) (has-∪ (live ∖ R′) I′ even′ j ∙ ap (λ (b : Bool). b || has I′ j) (has-∖ live R′ (sym h′) j)) t)))
+      (go (has live j) (has R j) (has R′ j) (has I′ j) (has I j) (⊆-at sub j) (⊆-at put-in j t) (λ u. ⊆-at s j (subst (λ (b : Bool). T b) (sym (has-∩ I′ R short j)) u))
+      (subst (λ (b : Bool). T b) (has-∪ (live ∖ R′) I′ even′ j ∙ ap (λ (b : Bool). b || has I′ j) (has-∖ live R′ (sym h′) j)) t)))
     where
       short : length I′ ≡ length R
       short = ⊆-length in′ ∙ h′ ∙ sym h
@@ -96,7 +96,7 @@ module _ (live : Columns) (X : List (List Float)) (sound : Sound (length live) X
   grows : rejectedSet r ⊆ rejectedSet (after live X r)
   grows = rw (after-rejected live X r sound (h .fit))
       (⊆-by (rejectedSet r) (rejectedSet r ∪ newly live X r) (sym (length-∪ (rejectedSet r) (newly live X r) same))
-        (λ j t. subst (λ (b : Bool). T b) (sym (has-∪ (rejectedSet r) (newly live X r) same j)) (or-left (has (rejectedSet r) j) (has (newly live X r) j) t)))
+      (λ j t. subst (λ (b : Bool). T b) (sym (has-∪ (rejectedSet r) (newly live X r) same j)) (or-left (has (rejectedSet r) j) (has (newly live X r) j) t)))
     where
       same : length (rejectedSet r) ≡ length (newly live X r)
       same = rejected-length live X r sound (h .fit) ∙ sym (newly-length live X r sound (h .fit))
@@ -104,7 +104,7 @@ module _ (live : Columns) (X : List (List Float)) (sound : Sound (length live) X
   after-inside : rejectedSet (after live X r) ⊆ live
   after-inside = rw (after-rejected live X r sound (h .fit))
       (⊆-by (rejectedSet r ∪ newly live X r) live (length-∪ (rejectedSet r) (newly live X r) same ∙ len)
-        (λ j t. go j (has (rejectedSet r) j) refl (subst (λ (b : Bool). T b) (has-∪ (rejectedSet r) (newly live X r) same j) t)))
+      (λ j t. go j (has (rejectedSet r) j) refl (subst (λ (b : Bool). T b) (has-∪ (rejectedSet r) (newly live X r) same j) t)))
     where
       len : length (rejectedSet r) ≡ length live
       len = rejected-length live X r sound (h .fit)
@@ -161,9 +161,9 @@ module _ (live : Columns) (X : List (List Float)) (sound : Sound (length live) X
       unfolding left′ R′
       after-later z = subst (λ (c : Float). key (criticalValue (r .k) (eOf X r) X (left′ ∪ I)) ≤ key c) (sym (bar-later live X r z))
           (putBack-reaches (length live) (r .k) (eOf X r) X sound (leftOver live r) (rejectedSet r) v
-            (choose-reaches {B = I ∩ rejectedSet r} {R = rejectedSet r} (r .k - 1) in-R (omega (arith, size-mono in-I)) (omega (arith, h .many z))
-              (λ J. leb v (key (criticalValue (r .k) (eOf X r) X (leftOver live r ∪ J))))
-              (λ J t. le→leb v (key (criticalValue (r .k) (eOf X r) X (leftOver live r ∪ J))) (mono (leftOver live r ∪ J) (put-under live (rejectedSet r) R′ I low low′ grows after-inside s J t)))))
+          (choose-reaches {B = I ∩ rejectedSet r} {R = rejectedSet r} (r .k - 1) in-R (omega (arith, size-mono in-I)) (omega (arith, h .many z))
+          (λ J. leb v (key (criticalValue (r .k) (eOf X r) X (leftOver live r ∪ J))))
+          (λ J t. le→leb v (key (criticalValue (r .k) (eOf X r) X (leftOver live r ∪ J))) (mono (leftOver live r ∪ J) (put-under live (rejectedSet r) R′ I low low′ grows after-inside s J t)))))
         where
           v : ℕ
           v = key (criticalValue (r .k) (eOf X r) X (left′ ∪ I))
@@ -185,9 +185,9 @@ module _ (live : Columns) (X : List (List Float)) (sound : Sound (length live) X
     unfolding R′
     bar-falls = subst (λ (c : Float). key c ≤ key (barOf live X r)) (sym next-bar)
         (putBack-under (length live) (r .k) (eOf X r) X sound left′ R′ (key (barOf live X r))
-          (choose-some (r .k - 1) R′ (omega (arith, going .many)))
-          (choose-sound (r .k - 1) R′ (λ I. leb (key (criticalValue (r .k) (eOf X r) X (left′ ∪ I))) (key (barOf live X r)))
-            (λ I s e. le→leb (key (criticalValue (r .k) (eOf X r) X (left′ ∪ I))) (key (barOf live X r)) (each I s e (decLe 1 (r .steps))))))
+        (choose-some (r .k - 1) R′ (omega (arith, going .many)))
+        (choose-sound (r .k - 1) R′ (λ I. leb (key (criticalValue (r .k) (eOf X r) X (left′ ∪ I))) (key (barOf live X r)))
+        (λ I s e. le→leb (key (criticalValue (r .k) (eOf X r) X (left′ ∪ I))) (key (barOf live X r)) (each I s e (decLe 1 (r .steps))))))
 
 -- ---- a whole run
 
@@ -208,15 +208,16 @@ module _ (live : Columns) (X : List (List Float)) (sound : Sound (length live) X
   next-lower (suc m) false r h e =
       true-T (atMost (barOf live X (after live X r)) (barOf live X r))
       (atMost-key (barOf live X (after live X r)) (barOf live X r) (bar-finite live X (after live X r) sound (after-fitting live X r sound (h .fit))) (bar-finite live X r sound (h .fit))
-        ∙ le-leb (key (barOf live X (after live X r))) (key (barOf live X r)) (bar-falls live X sound r h e))
+      ∙ le-leb (key (barOf live X (after live X r))) (key (barOf live X r)) (bar-falls live X sound r h e))
 
   pub run-falls : (m : ℕ) (b : Bool) (r : Run) → r .ended ≡ b → (b ≡ false → Going live X r) → Falling (stepsFrom m b live X r)
   unfolding stepsFrom recordOf
   run-falls zero b r e h = tt
   run-falls (suc m) true r e h = tt
-  run-falls (suc m) false r e h =
-      (next-lower m (after live X r .ended) r (h refl) refl,
-       run-falls m (after live X r .ended) (after live X r) refl (λ on. after-going live X sound r (h refl) on))
+  run-falls (suc m) false r e h = (
+    next-lower m (after live X r .ended) r (h refl) refl,
+    run-falls m (after live X r .ended) (after live X r) refl (λ on. after-going live X sound r (h refl) on),
+  )
 
 -- in the full run of an accepted table no critical value is higher than the one before
 pub full-run-falls : (t : List Float) (rows columns k a b observed : ℕ) → tableRefusal t rows columns k a b observed ≡ 0
@@ -234,5 +235,5 @@ full-run-falls t rows columns k a b observed ok =
 
     inside : rejectedSet (begun rows columns k a b observed) ⊆ replicate columns true
     inside = ⊆-by (rejectedSet (begun rows columns k a b observed)) (replicate columns true)
-      (rejected-length (replicate columns true) (rowsOf rows columns t) (begun rows columns k a b observed) (begun-sound rows columns k a b observed t acc) fit)
-      (λ j u. absurd (subst (λ (c : Bool). T c) (begun-empty rows columns k a b observed j) u))
+        (rejected-length (replicate columns true) (rowsOf rows columns t) (begun rows columns k a b observed) (begun-sound rows columns k a b observed t acc) fit)
+        (λ j u. absurd (subst (λ (c : Bool). T c) (begun-empty rows columns k a b observed j) u))

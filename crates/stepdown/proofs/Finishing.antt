@@ -57,11 +57,11 @@ module _ (t : Trace) (table : List Float) (rows columns observed : ℕ) where
     where
       js : set (padded 32 (judgedAs (Kept plusZero)) (map judgedAs (tabulate j (λ i. verdictIn t i)))) j (judgedAs v) ≡ padded 32 (judgedAs (Kept plusZero)) (map judgedAs (tabulate (j + 1) (λ i. verdictIn t i)))
       js = set-padded 32 (judgedAs (Kept plusZero)) (map judgedAs (tabulate j (λ i. verdictIn t i))) j (judgedAs v) (length-map (tabulate j (λ i. verdictIn t i)) judgedAs ∙ tabulate-length j (λ i. verdictIn t i)) h
-        ∙ ap (padded 32 (judgedAs (Kept plusZero))) (ap (λ (w : Verdict). map judgedAs (tabulate j (λ i. verdictIn t i)) ++ (judgedAs w ∷ [])) p ∙ sym (map-more judgedAs (tabulate j (λ i. verdictIn t i)) (verdictIn t j)) ∙ ap (map judgedAs) (sym (tabulate-more j (λ i. verdictIn t i))))
+          ∙ ap (padded 32 (judgedAs (Kept plusZero))) (ap (λ (w : Verdict). map judgedAs (tabulate j (λ i. verdictIn t i)) ++ (judgedAs w ∷ [])) p ∙ sym (map-more judgedAs (tabulate j (λ i. verdictIn t i)) (verdictIn t j)) ∙ ap (map judgedAs) (sym (tabulate-more j (λ i. verdictIn t i))))
 
       cs : set (padded 32 0 (tabulate j (λ i. atLeast (rowsOf rows columns table) (getD table (observed * columns + i) nan) i))) j n ≡ padded 32 0 (tabulate (j + 1) (λ i. atLeast (rowsOf rows columns table) (getD table (observed * columns + i) nan) i))
       cs = set-padded 32 0 (tabulate j (λ i. atLeast (rowsOf rows columns table) (getD table (observed * columns + i) nan) i)) j n (tabulate-length j (λ i. atLeast (rowsOf rows columns table) (getD table (observed * columns + i) nan) i)) h
-        ∙ ap (padded 32 0) (ap (λ (m : ℕ). tabulate j (λ i. atLeast (rowsOf rows columns table) (getD table (observed * columns + i) nan) i) ++ (m ∷ [])) q ∙ sym (tabulate-more j (λ i. atLeast (rowsOf rows columns table) (getD table (observed * columns + i) nan) i)))
+          ∙ ap (padded 32 0) (ap (λ (m : ℕ). tabulate j (λ i. atLeast (rowsOf rows columns table) (getD table (observed * columns + i) nan) i) ++ (m ∷ [])) q ∙ sym (tabulate-more j (λ i. atLeast (rowsOf rows columns table) (getD table (observed * columns + i) nan) i)))
 
   pub partial-end : (j : ℕ) (f : FullRun) → j ≤ columns → columns ≤ j → f ≡ partialRun j → f ≡ finishedRun t table rows columns observed
   unfolding partialRun verdicts counts finishedRun
@@ -94,19 +94,20 @@ module _ (table : List Float) (rows columns k a b observed : ℕ) where
 
   finished-is : observed < rows → finishedRun (traceOf ss) table rows columns observed ≡ acceptedRun (tableRun table rows columns k a b observed)
   unfolding finishedRun acceptedRun tableRun fullRun ss traceOf
-  finished-is h = λ i. record
-      { refusal = 0
-      ; steps = sym (length-map ss (λ s. s .mark)) i
-      ; records = padded 32 noRecord (map (λ s. s .mark) ss)
-      ; judged = padded 32 (judgedAs (Kept plusZero)) (map judgedAs (vs i))
-      ; counts = padded 32 0 (cs i) }
+  finished-is h = λ i. record {
+    refusal = 0;
+    steps = sym (length-map ss (λ s. s .mark)) i;
+    records = padded 32 noRecord (map (λ s. s .mark) ss);
+    judged = padded 32 (judgedAs (Kept plusZero)) (map judgedAs (vs i));
+    counts = padded 32 0 (cs i);
+  }
     where
       vs : tabulate columns (λ j. verdictIn (traceOf ss) j) ≡ tabulate columns (λ j. verdictOf ss j)
       vs = tabulate-same columns (λ j. verdictIn (traceOf ss) j) (λ j. verdictOf ss j) (λ j l. trace-verdict ss j)
 
       cs : tabulate columns (λ j. atLeast (rowsOf rows columns table) (getD table (observed * columns + j) nan) j) ≡ tabulate columns (λ j. atLeast (rowsOf rows columns table) (getD (getD (rowsOf rows columns table) observed []) j nan) j)
       cs = tabulate-same columns (λ j. atLeast (rowsOf rows columns table) (getD table (observed * columns + j) nan) j) (λ j. atLeast (rowsOf rows columns table) (getD (getD (rowsOf rows columns table) observed []) j nan) j)
-        (λ j l. ap (λ (v : Float). atLeast (rowsOf rows columns table) v j) (sym (row-entry table rows columns observed j h l)))
+          (λ j l. ap (λ (v : Float). atLeast (rowsOf rows columns table) v j) (sym (row-entry table rows columns observed j h l)))
 
   module _ (work : List Float) (n : ℕ) (e : n ≡ tableRunRefusal table rows columns k a b observed (length work)) where
     pub full-refused : (r : FullRun) → (n ≡ 0 → ⊥) → r ≡ blankRun n → r ≡ fullAnswer table rows columns k a b observed (length work)

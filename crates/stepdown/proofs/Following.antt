@@ -35,18 +35,19 @@ module _ (t : List Float) (r : Run) (g : Going t r) (on : advanced t r .run .end
 
   pub going-next : Going t (advanced t r .run)
   unfolding advanced after next
-  going-next = record
-    { ready = g .ready
-    ; rows-some = g .rows-some
-    ; held = g .held
-    ; proper = g .proper
-    ; b-most = g .b-most
-    ; seen = g .seen
-    ; inside = after-inside t r g
-    ; steps-most = omega arith
-    ; fresh = λ z. absurd (omega arith)
-    ; many = λ _. goes .many
-    ; some = after-some t r g (goes .left) }
+  going-next = record {
+    ready = g .ready;
+    rows-some = g .rows-some;
+    held = g .held;
+    proper = g .proper;
+    b-most = g .b-most;
+    seen = g .seen;
+    inside = after-inside t r g;
+    steps-most = omega arith;
+    fresh = λ z. absurd (omega arith);
+    many = λ _. goes .many;
+    some = after-some t r g (goes .left);
+  }
 
 -- ---- lists
 
@@ -114,7 +115,7 @@ module _ (t : List Float) (start : Run) (tr : Trace) (r : Run) (i : ℕ) (f : Fo
   pub follow-out : 32 ≤ i → tr ≡ traceOf (stepsAt t start)
   unfolding stepsFrom
   follow-out h = let z : 32 - i ≡ 0 = omega arith in
-    f .traced ∙ ap traceOf (none-after (stepsAt t start) i (sym (f .rest) ∙ ap (stepsIn t r) z))
+      f .traced ∙ ap traceOf (none-after (stepsAt t start) i (sym (f .rest) ∙ ap (stepsIn t r) z))
 
   module _ (h : i < 32) (on : r .ended ≡ false) (s : Step) (e : s ≡ advanced t r) where
     here : drop i (stepsAt t start) ≡ advanced t r ∷ stepsFrom (32 - i - 1) (advanced t r .run .ended) (everyColumn (r .columns)) (rowsOf (r .rows) (r .columns) t) (advanced t r .run)
@@ -150,21 +151,22 @@ module _ (t : List Float) (start : Run) (tr : Trace) (r : Run) (i : ℕ) (f : Fo
 
         marks : set (padded 32 noRecord (map (λ s. s .mark) (take i (stepsAt t start)))) i (advanced t r .mark) ≡ padded 32 noRecord (map (λ s. s .mark) (take i (stepsAt t start) ++ (advanced t r ∷ [])))
         marks = set-padded 32 noRecord (map (λ s. s .mark) (take i (stepsAt t start))) i (advanced t r .mark) (length-map (take i (stepsAt t start)) (λ s. s .mark) ∙ len) h
-          ∙ ap (padded 32 noRecord) (sym (map-more (λ s. s .mark) (take i (stepsAt t start)) (advanced t r)))
+            ∙ ap (padded 32 noRecord) (sym (map-more (λ s. s .mark) (take i (stepsAt t start)) (advanced t r)))
 
         masks : set (padded 32 0 (map (λ s. s .run .rejected) (take i (stepsAt t start)))) i (advanced t r .run .rejected) ≡ padded 32 0 (map (λ s. s .run .rejected) (take i (stepsAt t start) ++ (advanced t r ∷ [])))
         masks = set-padded 32 0 (map (λ s. s .run .rejected) (take i (stepsAt t start))) i (advanced t r .run .rejected) (length-map (take i (stepsAt t start)) (λ s. s .run .rejected) ∙ len) h
-          ∙ ap (padded 32 0) (sym (map-more (λ s. s .run .rejected) (take i (stepsAt t start)) (advanced t r)))
+            ∙ ap (padded 32 0) (sym (map-more (λ s. s .run .rejected) (take i (stepsAt t start)) (advanced t r)))
 
     followed : Followed t start (notedAt tr i (advanced t r)) (advanced t r .run) (i + 1)
-    followed = record
-      { same-rows = next-figures .0 ∙ f .same-rows
-      ; at-step = next-figures .2 ∙ ap (λ (n : ℕ). n + 1) (f .at-step)
-      ; within = omega arith
-      ; long = omega (arith, head-at (stepsAt t start) i (advanced t r) _ here .0)
-      ; going = λ q. going-next t r (f .going on) q (omega (arith, f .at-step))
-      ; rest = rest-next
-      ; traced = traced-next }
+    followed = record {
+      same-rows = next-figures .0 ∙ f .same-rows;
+      at-step = next-figures .2 ∙ ap (λ (n : ℕ). n + 1) (f .at-step);
+      within = omega arith;
+      long = omega (arith, head-at (stepsAt t start) i (advanced t r) _ here .0);
+      going = λ q. going-next t r (f .going on) q (omega (arith, f .at-step));
+      rest = rest-next;
+      traced = traced-next;
+    }
 
     pub follow-turn : (tr′ : Trace) (r′ : Run) → tr′ ≡ notedAt tr i s → r′ ≡ s .run → Followed t start tr′ r′ (i + 1)
     follow-turn tr′ r′ p q = subst (λ (x : Trace). Followed t start x r′ (i + 1)) (sym (p ∙ ap (notedAt tr i) e)) (subst (λ (x : Run). Followed t start (notedAt tr i (advanced t r)) x (i + 1)) (sym (q ∙ ap (λ (x : Step). x .run) e)) followed)

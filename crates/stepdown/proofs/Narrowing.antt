@@ -100,11 +100,12 @@ module _ (xs : List Float) (m : ℕ) (lo hi : Float) (fs : Finite xs) (pos : 0 <
       go (fin s n d) e u = u
 
   pub smallest-found : T (high hi) → unsigned hi ≡ mthSmallest m xs
-  smallest-found t = mthSmallest-is m xs fs pos held (unsigned hi) (record
-      { finitely = unsigned-finite hi f
-      ; plain = unsigned-twice hi
-      ; few = rw (unsigned-key hi) (omega (arith, upTo-is xs hi fs f))
-      ; enough = rw (unsigned-key hi) (omega (arith, under-is xs hi fs f, below-few)) })
+  smallest-found t = mthSmallest-is m xs fs pos held (unsigned hi) (record {
+    finitely = unsigned-finite hi f;
+    plain = unsigned-twice hi;
+    few = rw (unsigned-key hi) (omega (arith, upTo-is xs hi fs f));
+    enough = rw (unsigned-key hi) (omega (arith, under-is xs hi fs f, below-few));
+  })
     where
       f : T (finite hi)
       f = hi-finite t
@@ -195,15 +196,23 @@ module _ (xs : List Float) (m : ℕ) (fs : Finite xs) where
 
     pub fewer-low : count (between (getD xs i nan) hi) xs < n
     unfolding v
-    fewer-low = omega (arith, a .inside, count-less-of finite (between lo hi) (between v hi) xs i nan
-        (λ x f u. and-both (smaller lo x) (smaller x hi) (trans-low lo v x (a .bottom) v-finite f above-lo (and-left (smaller v x) (smaller x hi) u)) (and-right (smaller v x) (smaller x hi) u))
-        fs h t (λ u. irreflexive v v-finite (and-left (smaller v v) (smaller v hi) u)))
+    fewer-low = omega (
+      arith,
+      a .inside,
+      count-less-of finite (between lo hi) (between v hi) xs i nan
+          (λ x f u. and-both (smaller lo x) (smaller x hi) (trans-low lo v x (a .bottom) v-finite f above-lo (and-left (smaller v x) (smaller x hi) u)) (and-right (smaller v x) (smaller x hi) u))
+          fs h t (λ u. irreflexive v v-finite (and-left (smaller v v) (smaller v hi) u)),
+    )
 
     pub fewer-high : count (between lo (getD xs i nan)) xs < n
     unfolding v
-    fewer-high = omega (arith, a .inside, count-less-of finite (between lo hi) (between lo v) xs i nan
-        (λ x f u. and-both (smaller lo x) (smaller x hi) (and-left (smaller lo x) (smaller x v) u) (trans-high hi v x (a .roof) v-finite f (and-right (smaller lo x) (smaller x v) u) below-hi))
-        fs h t (λ u. irreflexive v v-finite (and-right (smaller lo v) (smaller v v) u)))
+    fewer-high = omega (
+      arith,
+      a .inside,
+      count-less-of finite (between lo hi) (between lo v) xs i nan
+          (λ x f u. and-both (smaller lo x) (smaller x hi) (and-left (smaller lo x) (smaller x v) u) (trans-high hi v x (a .roof) v-finite f (and-right (smaller lo x) (smaller x v) u) below-hi))
+          fs h t (λ u. irreflexive v v-finite (and-right (smaller lo v) (smaller v v) u)),
+    )
 
     -- the same for the bounds that the turn gives
     module _ {lo′ hi′ : Float} {n′ : ℕ} where

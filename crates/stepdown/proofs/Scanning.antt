@@ -55,9 +55,9 @@ module _ (row : List Float) (i s : ℕ) (v : Float) (h : i < length row) where
 
   carry : (m a : ℕ) → m + 2 ^ i * (a + 2 * toMark row (i + 1) (s / 2) v) ≡ m + 2 ^ i * a + 2 ^ (i + 1) * toMark row (i + 1) (s / 2) v
   carry m a = let p : 2 ^ (i + 1) ≡ 2 ^ i * 2 = ap (λ (n : ℕ). 2 ^ n) (add-one i) ∙ pow-suc 2 i in
-    let q : 2 ^ i * (a + 2 * toMark row (i + 1) (s / 2) v) ≡ 2 ^ i * a + 2 ^ i * (2 * toMark row (i + 1) (s / 2) v) = mul-add (2 ^ i) a (2 * toMark row (i + 1) (s / 2) v) in
-    let r : 2 ^ i * (2 * toMark row (i + 1) (s / 2) v) ≡ 2 ^ (i + 1) * toMark row (i + 1) (s / 2) v = sym (mul-assoc (2 ^ i) 2 (toMark row (i + 1) (s / 2) v)) ∙ ap (λ (n : ℕ). n * toMark row (i + 1) (s / 2) v) (sym p) in
-    omega arith
+      let q : 2 ^ i * (a + 2 * toMark row (i + 1) (s / 2) v) ≡ 2 ^ i * a + 2 ^ i * (2 * toMark row (i + 1) (s / 2) v) = mul-add (2 ^ i) a (2 * toMark row (i + 1) (s / 2) v) in
+      let r : 2 ^ i * (2 * toMark row (i + 1) (s / 2) v) ≡ 2 ^ (i + 1) * toMark row (i + 1) (s / 2) v = sym (mul-assoc (2 ^ i) 2 (toMark row (i + 1) (s / 2) v)) ∙ ap (λ (n : ℕ). n * toMark row (i + 1) (s / 2) v) (sym p) in
+      omega arith
 
   mark-turn : (b : Bool) (m t : ℕ) → (eqb (s % 2) 1 && smaller v (getD row i nan)) ≡ b → m + 2 ^ i * toMark row i s v ≡ t → m + 2 ^ i * bit b + 2 ^ (i + 1) * toMark row (i + 1) (s / 2) v ≡ t
   mark-turn b m t e g =

@@ -77,8 +77,8 @@ has-length (a ∷ K) (suc j) t = omega (arith, has-length K j t)
 pub data _⊆_ : Columns → Columns → Type 0 where
   none : [] ⊆ []
   more : {a b : Bool} {K L : Columns} → (T a → T b) → K ⊆ L → (a ∷ K) ⊆ (b ∷ L)
-infix 4 _⊆_
 
+infix 4 _⊆_
 pub ⊆-by : (K L : Columns) → length K ≡ length L → ((j : ℕ) → T (has K j) → T (has L j)) → K ⊆ L
 ⊆-by [] [] h f = none
 ⊆-by [] (b ∷ L) h f = absurd (omega arith)
@@ -169,8 +169,8 @@ choose-reaches (suc j) (more {a = true} {b = false} f s) h g p t = absurd (f tt)
 choose-reaches (suc j) (more {a = false} {b = true} {K = B} {L = R} f s) h g p t =
     rw (count-append p (map (λ I. true ∷ I) (choose j R)) (map (λ I. false ∷ I) (choose (suc j) R)), count-map (λ I. true ∷ I) p (choose j R), count-map (λ I. false ∷ I) p (choose (suc j) R))
     (pick (decLe (size B) j)
-      (λ r. choose-reaches j s r (omega arith) (λ I. p (true ∷ I)) (λ I q. t (true ∷ I) (more (λ _. tt) q)))
-      (λ r. choose-reaches (suc j) s (omega arith) r (λ I. p (false ∷ I)) (λ I q. t (false ∷ I) (more (λ z. z) q))))
+    (λ r. choose-reaches j s r (omega arith) (λ I. p (true ∷ I)) (λ I q. t (true ∷ I) (more (λ _. tt) q)))
+    (λ r. choose-reaches (suc j) s (omega arith) r (λ I. p (false ∷ I)) (λ I q. t (false ∷ I) (more (λ z. z) q))))
   where
     pick : {m n : ℕ} → Dec (size B ≤ j) → (size B ≤ j → 0 < m) → (suc j ≤ size R → 0 < n) → 0 < m + n
     pick (yes r) f g = omega (arith, f r)

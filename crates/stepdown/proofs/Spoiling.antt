@@ -53,12 +53,12 @@ module _ (r : Run) where
         pub rejected-at-start : r .steps ≡ 0 → (r .rejected ≡ 0 → ⊥) → true ≡ badProgress r
         unfolding badProgress n
         rejected-at-start z h = or-passes _ _ _ (over-is m e .1 a) (or-passes _ _ _ (le-ltb 32 (r .steps) b)
-          (or-holds _ _ (ap₂ (λ (p q : Bool). p && (not q || r .ended)) (eq-eqb (r .steps) 0 z) (ne-eqb (r .rejected) 0 h))))
+            (or-holds _ _ (ap₂ (λ (p q : Bool). p && (not q || r .ended)) (eq-eqb (r .steps) 0 z) (ne-eqb (r .rejected) 0 h))))
 
         pub ended-at-start : r .steps ≡ 0 → r .rejected ≡ 0 → r .ended ≡ badProgress r
         unfolding badProgress n
         ended-at-start z h = or-passes _ _ _ (over-is m e .1 a) (or-passes _ _ _ (le-ltb 32 (r .steps) b)
-          (sym (ap₂ (λ (p q : Bool). p || q) (ap₂ (λ (p q : Bool). p && (not q || r .ended)) (eq-eqb (r .steps) 0 z) (eq-eqb (r .rejected) 0 h)) (start-rest z (ltb n (r .k) || leb (r .columns) n)) ∙ plain (r .ended))))
+            (sym (ap₂ (λ (p q : Bool). p || q) (ap₂ (λ (p q : Bool). p && (not q || r .ended)) (eq-eqb (r .steps) 0 z) (eq-eqb (r .rejected) 0 h)) (start-rest z (ltb n (r .k) || leb (r .columns) n)) ∙ plain (r .ended))))
           where
             plain : (x : Bool) → (x || false) ≡ x
             plain true = refl
@@ -68,7 +68,7 @@ module _ (r : Run) where
           pub ended-later : r .ended ≡ true → false ≡ badProgress r
           unfolding badProgress n
           ended-later d = or-passes _ _ _ (over-is m e .1 a) (or-passes _ _ _ (le-ltb 32 (r .steps) b)
-            (sym (ap₂ (λ (p : Bool) (q : Bool). (p && (not (eqb (r .rejected) 0) || r .ended)) || ((not q && ltb n (r .steps)) || (not q && (ltb 0 (r .steps) && (ltb n (r .k) || leb (r .columns) n))))) (ne-eqb (r .steps) 0 s) d)))
+              (sym (ap₂ (λ (p : Bool) (q : Bool). (p && (not (eqb (r .rejected) 0) || r .ended)) || ((not q && ltb n (r .steps)) || (not q && (ltb 0 (r .steps) && (ltb n (r .k) || leb (r .columns) n))))) (ne-eqb (r .steps) 0 s) d)))
 
           module _ (d : r .ended ≡ false) where
             going-rest : badProgress r ≡ (ltb n (r .steps) || (ltb n (r .k) || leb (r .columns) n))

@@ -86,7 +86,6 @@ module _ (live : Columns) (X : List (List Float)) (r : Run) where
     pub left-length : length (leftOver live r) ≡ length live
     left-length = length-∖ live (rejectedSet r) (sym rejected-length)
 
-
     pub newly-is : newly live X r ≡ leftOver live r ∩ over (barOf live X r) (seenRow X r)
     unfolding newly
     newly-is = refl
@@ -96,8 +95,8 @@ module _ (live : Columns) (X : List (List Float)) (r : Run) where
     unfolding newly
     newly-lives j t =
         and-left (has live j) (not (has (rejectedSet r) j)) (subst (λ (b : Bool). T b) (has-∖ live (rejectedSet r) (sym rejected-length) j)
-          (and-left (has (leftOver live r) j) (has (over (barOf live X r) (seenRow X r)) j)
-            (subst (λ (b : Bool). T b) (has-∩ (leftOver live r) (over (barOf live X r) (seenRow X r)) (left-length ∙ sym (over-length (barOf live X r) (seenRow X r) ∙ seen-length)) j) t)))
+        (and-left (has (leftOver live r) j) (has (over (barOf live X r) (seenRow X r)) j)
+        (subst (λ (b : Bool). T b) (has-∩ (leftOver live r) (over (barOf live X r) (seenRow X r)) (left-length ∙ sym (over-length (barOf live X r) (seenRow X r) ∙ seen-length)) j) t)))
 
     pub newly-length : length (newly live X r) ≡ length live
     unfolding newly

@@ -150,40 +150,71 @@ module _ (total rest rest′ : ℕ → ℕ) (t : Top) (x : Float) (f : T (finite
           → Top4 total rest′ (cond d (cond c (cond b (cond a (four x (t .a) (t .b) (t .c)) (four (t .a) x (t .b) (t .c))) (four (t .a) (t .b) x (t .c))) (four (t .a) (t .b) (t .c) x)) t)
       go false c b a d⁺ d⁻ c⁺ c⁻ b⁺ b⁻ a⁺ a⁻ =
           let q : key x ≤ key (t .d) = d⁻ refl in
-          record { lows = h .lows; some = still; first = stay 1 (key (t .a)) (omega (arith, ba, cb, dc)) (h .first); second = stay 2 (key (t .b)) (omega (arith, cb, dc)) (h .second)
-                 ; third = stay 3 (key (t .c)) (omega (arith, dc)) (h .third); fourth = stay 4 (key (t .d)) q (h .fourth) }
+          record {
+            lows = h .lows;
+            some = still;
+            first = stay 1 (key (t .a)) (omega (arith, ba, cb, dc)) (h .first);
+            second = stay 2 (key (t .b)) (omega (arith, cb, dc)) (h .second);
+            third = stay 3 (key (t .c)) (omega (arith, dc)) (h .third);
+            fourth = stay 4 (key (t .d)) q (h .fourth);
+          }
       go true false b a d⁺ d⁻ c⁺ c⁻ b⁺ b⁻ a⁺ a⁻ =
           let q : key x ≤ key (t .c) = c⁻ refl in
           let p : key (t .d) < key x = d⁺ refl in
-          record { lows = (la, lb, lc, lx); some = still; first = stay 1 (key (t .a)) (omega (arith, ba, cb)) (h .first); second = stay 2 (key (t .b)) (omega (arith, cb)) (h .second)
-                 ; third = stay 3 (key (t .c)) q (h .third); fourth = enter 3 (key (t .d)) (key (t .c)) (omega arith) q (h .fourth) (h .third) }
+          record {
+            lows = (la, lb, lc, lx);
+            some = still;
+            first = stay 1 (key (t .a)) (omega (arith, ba, cb)) (h .first);
+            second = stay 2 (key (t .b)) (omega (arith, cb)) (h .second);
+            third = stay 3 (key (t .c)) q (h .third);
+            fourth = enter 3 (key (t .d)) (key (t .c)) (omega arith) q (h .fourth) (h .third);
+          }
       go true true false a d⁺ d⁻ c⁺ c⁻ b⁺ b⁻ a⁺ a⁻ =
           let q : key x ≤ key (t .b) = b⁻ refl in
           let p : key (t .c) < key x = c⁺ refl in
-          record { lows = (la, lb, lx, lc); some = still; first = stay 1 (key (t .a)) (omega (arith, ba)) (h .first); second = stay 2 (key (t .b)) q (h .second)
-                 ; third = enter 2 (key (t .c)) (key (t .b)) (omega arith) q (h .third) (h .second); fourth = move 3 (key (t .c)) (omega arith) (h .third) }
+          record {
+            lows = (la, lb, lx, lc);
+            some = still;
+            first = stay 1 (key (t .a)) (omega (arith, ba)) (h .first);
+            second = stay 2 (key (t .b)) q (h .second);
+            third = enter 2 (key (t .c)) (key (t .b)) (omega arith) q (h .third) (h .second);
+            fourth = move 3 (key (t .c)) (omega arith) (h .third);
+          }
       go true true true false d⁺ d⁻ c⁺ c⁻ b⁺ b⁻ a⁺ a⁻ =
           let q : key x ≤ key (t .a) = a⁻ refl in
           let p : key (t .b) < key x = b⁺ refl in
-          record { lows = (la, lx, lb, lc); some = still; first = stay 1 (key (t .a)) q (h .first); second = enter 1 (key (t .b)) (key (t .a)) (omega arith) q (h .second) (h .first)
-                 ; third = move 2 (key (t .b)) (omega arith) (h .second); fourth = move 3 (key (t .c)) (omega (arith, cb)) (h .third) }
+          record {
+            lows = (la, lx, lb, lc);
+            some = still;
+            first = stay 1 (key (t .a)) q (h .first);
+            second = enter 1 (key (t .b)) (key (t .a)) (omega arith) q (h .second) (h .first);
+            third = move 2 (key (t .b)) (omega arith) (h .second);
+            fourth = move 3 (key (t .c)) (omega (arith, cb)) (h .third);
+          }
       go true true true true d⁺ d⁻ c⁺ c⁻ b⁺ b⁻ a⁺ a⁻ =
           let p : key (t .a) < key x = a⁺ refl in
-          record { lows = (lx, la, lb, lc); some = still; first = leads total rest rest′ (key x) step (key (t .a)) (omega arith) (h .first) (h .some)
-                 ; second = move 1 (key (t .a)) (omega arith) (h .first); third = move 2 (key (t .b)) (omega (arith, ba)) (h .second); fourth = move 3 (key (t .c)) (omega (arith, ba, cb)) (h .third) }
+          record {
+            lows = (lx, la, lb, lc);
+            some = still;
+            first = leads total rest rest′ (key x) step (key (t .a)) (omega arith) (h .first) (h .some);
+            second = move 1 (key (t .a)) (omega arith) (h .first);
+            third = move 2 (key (t .b)) (omega (arith, ba)) (h .second);
+            fourth = move 3 (key (t .c)) (omega (arith, ba, cb)) (h .third);
+          }
 
 -- nothing to come changes
 seen-same : (total rest rest′ : ℕ → ℕ) (j y : ℕ) → ((v : ℕ) → rest v ≡ rest′ v) → Seen total rest j y → Seen total rest′ j y
 seen-same total rest rest′ j y e s v = (λ q. omega (arith, e v, s v .0 q), λ q. s v .1 (omega (arith, e v)))
 
 pub top-skip : (total rest rest′ : ℕ → ℕ) (t : Top) → ((v : ℕ) → rest v ≡ rest′ v) → Top4 total rest t → Top4 total rest′ t
-top-skip total rest rest′ t e h = record
-  { lows = h .lows
-  ; some = λ v. omega (arith, e v, h .some v)
-  ; first = seen-same total rest rest′ 1 (key (t .a)) e (h .first)
-  ; second = seen-same total rest rest′ 2 (key (t .b)) e (h .second)
-  ; third = seen-same total rest rest′ 3 (key (t .c)) e (h .third)
-  ; fourth = seen-same total rest rest′ 4 (key (t .d)) e (h .fourth) }
+top-skip total rest rest′ t e h = record {
+  lows = h .lows;
+  some = λ v. omega (arith, e v, h .some v);
+  first = seen-same total rest rest′ 1 (key (t .a)) e (h .first);
+  second = seen-same total rest rest′ 2 (key (t .b)) e (h .second);
+  third = seen-same total rest rest′ 3 (key (t .c)) e (h .third);
+  fourth = seen-same total rest rest′ 4 (key (t .d)) e (h .fourth);
+}
 
 pub top-start : (total : ℕ → ℕ) → Top4 total total (four (inf true) (inf true) (inf true) (inf true))
 unfolding key
@@ -261,9 +292,11 @@ module _ (row : List Float) (set s i k : ℕ) (t : Top) (fs : Finite row) (pos :
 
   same-key : key (nth t k) ≡ key (kthLargest k xs)
   unfolding xs
-  same-key = omega (arith,
-      not-below (key (nth t k)) (key (kthLargest k xs)) (λ g. let v = key (nth t k) in let q : v < v = found .seen v .1 (omega (arith, come-none row i s done v, come-all row set v, kthLargest-law k xs finite-xs pos enough v .0 g)) in omega arith),
-      not-below (key (kthLargest k xs)) (key (nth t k)) (λ g. let v = key (kthLargest k xs) in let q : v < v = kthLargest-law k xs finite-xs pos enough v .1 (omega (arith, come-none row i s done v, come-all row set v, found .seen v .0 g)) in omega arith))
+  same-key = omega (
+    arith,
+    not-below (key (nth t k)) (key (kthLargest k xs)) (λ g. let v = key (nth t k) in let q : v < v = found .seen v .1 (omega (arith, come-none row i s done v, come-all row set v, kthLargest-law k xs finite-xs pos enough v .0 g)) in omega arith),
+    not-below (key (kthLargest k xs)) (key (nth t k)) (λ g. let v = key (kthLargest k xs) in let q : v < v = kthLargest-law k xs finite-xs pos enough v .1 (omega (arith, come-none row i s done v, come-all row set v, found .seen v .0 g)) in omega arith),
+  )
 
   pub kMax-found : unsigned (nth t k) ≡ kMax k (columnsOf (length row) set) row
   unfolding kMax xs

@@ -75,7 +75,7 @@ module _ (t : Trace) (i j : ℕ) (last : Float) (d : Traced t) (h : i < t .steps
 
       front : drop i (take (t .steps) (t .records)) ≡ getD (t .records) i (record { step = 0; critical = nan }) ∷ drop (i + 1) (take (t .steps) (t .records))
       front = drop-cons (take (t .steps) (t .records)) i (record { step = 0; critical = nan }) (omega (arith, r-length))
-        ∙ ap₂ (λ (x : Record) (n : ℕ). x ∷ drop n (take (t .steps) (t .records))) (getD-take (t .steps) (t .records) i (record { step = 0; critical = nan }) h) (sym (add-one i))
+          ∙ ap₂ (λ (x : Record) (n : ℕ). x ∷ drop n (take (t .steps) (t .records))) (getD-take (t .steps) (t .records) i (record { step = 0; critical = nan }) h) (sym (add-one i))
 
       front-sets : drop i (take (t .steps) (t .sets)) ≡ getD (t .sets) i 0 ∷ drop (i + 1) (take (t .steps) (t .sets))
       front-sets = drop-cons (take (t .steps) (t .sets)) i 0 (omega (arith, s-length)) ∙ ap₂ (λ (x n : ℕ). x ∷ drop n (take (t .steps) (t .sets))) (getD-take (t .steps) (t .sets) i 0 h) (sym (add-one i))

@@ -65,7 +65,7 @@ module _ (cols s j : ℕ) (inside : s < 2 ^ cols) (h : j < cols) (e : has (colum
 
   pub put-lt : s + 2 ^ j < 2 ^ cols
   put-lt = subst (λ (n : ℕ). n < 2 ^ cols) put-mask
-    (subst (λ (n : ℕ). maskOf (set (columnsOf cols s) j true) < 2 ^ n) (length-set (columnsOf cols s) j true ∙ columnsOf-length cols s) (maskOf-lt (set (columnsOf cols s) j true)))
+      (subst (λ (n : ℕ). maskOf (set (columnsOf cols s) j true) < 2 ^ n) (length-set (columnsOf cols s) j true ∙ columnsOf-length cols s) (maskOf-lt (set (columnsOf cols s) j true)))
 
   pub put-columns : columnsOf cols (s + 2 ^ j) ≡ set (columnsOf cols s) j true
   put-columns =
@@ -145,11 +145,11 @@ module _ (k e : ℕ) (X : List (List Float)) (cols : ℕ) where
 
       step-past : (K : Columns) (l : List Columns) → map (λ I. criticalValue k e X (joinAt K from I)) (map (λ I. false ∷ I) l) ≡ map (λ I. criticalValue k e X (joinAt K (from + 1) I)) l
       step-past K l = map-twice (λ I. criticalValue k e X (joinAt K from I)) (λ I. false ∷ I) l
-        ∙ map-same (λ I. criticalValue k e X (joinAt K from (false ∷ I))) (λ I. criticalValue k e X (joinAt K (from + 1) I)) l (λ I. ap (criticalValue k e X) (join-past K from I ∙ ap (λ (n : ℕ). joinAt K n I) (sym (add-one from))))
+          ∙ map-same (λ I. criticalValue k e X (joinAt K from (false ∷ I))) (λ I. criticalValue k e X (joinAt K (from + 1) I)) l (λ I. ap (criticalValue k e X) (join-past K from I ∙ ap (λ (n : ℕ). joinAt K n I) (sym (add-one from))))
 
       step-in : (K : Columns) (l : List Columns) → map (λ I. criticalValue k e X (joinAt K from I)) (map (λ I. true ∷ I) l) ≡ map (λ I. criticalValue k e X (joinAt (set K from true) (from + 1) I)) l
       step-in K l = map-twice (λ I. criticalValue k e X (joinAt K from I)) (λ I. true ∷ I) l
-        ∙ map-same (λ I. criticalValue k e X (joinAt K from (true ∷ I))) (λ I. criticalValue k e X (joinAt (set K from true) (from + 1) I)) l (λ I. ap (criticalValue k e X) (join-in K from I ∙ ap (λ (n : ℕ). joinAt (set K from true) n I) (sym (add-one from))))
+          ∙ map-same (λ I. criticalValue k e X (joinAt K from (true ∷ I))) (λ I. criticalValue k e X (joinAt (set K from true) (from + 1) I)) l (λ I. ap (criticalValue k e X) (join-in K from I ∙ ap (λ (n : ℕ). joinAt (set K from true) n I) (sym (add-one from))))
 
       -- the column `from` is not rejected
       pub past-value : (left : ℕ) → (left ≡ 0 → ⊥) → (rest % 2 ≡ 1 → ⊥) → walked s (rest / 2) (from + 1) left best ≡ walked s rest from left best
@@ -157,7 +157,7 @@ module _ (k e : ℕ) (X : List (List Float)) (cols : ℕ) where
       past-value zero f q = absurd (f refl)
       past-value (suc left) f q =
           sym (ap (λ (R : Columns). bestOf best (map (λ I. criticalValue k e X (joinAt (columnsOf cols s) from I)) (choose (suc left) R))) (split false (ne-eqb (rest % 2) 1 q))
-            ∙ ap (bestOf best) (step-past (columnsOf cols s) (choose (suc left) (columnsOf (cols - (from + 1)) (rest / 2)))))
+          ∙ ap (bestOf best) (step-past (columnsOf cols s) (choose (suc left) (columnsOf (cols - (from + 1)) (rest / 2)))))
 
       -- it is: chosen first, and then not
       pub in-value : (left s′ : ℕ) (b : Float) → (left ≡ 0 → ⊥) → rest % 2 ≡ 1 → columnsOf cols s′ ≡ set (columnsOf cols s) from true → b ≡ walked s′ (rest / 2) (from + 1) (left - 1) best
@@ -166,11 +166,11 @@ module _ (k e : ℕ) (X : List (List Float)) (cols : ℕ) where
       in-value zero s′ b f q p v = absurd (f refl)
       in-value (suc left) s′ b f q p v =
           ap (λ (x : Float). bestOf x rest-values) (v ∙ ap (λ (n : ℕ). walked s′ (rest / 2) (from + 1) n best) (let z : suc left - 1 ≡ left = omega arith in z)
-            ∙ ap (λ (K : Columns). bestOf best (map (λ I. criticalValue k e X (joinAt K (from + 1) I)) (choose left (columnsOf (cols - (from + 1)) (rest / 2))))) p)
+          ∙ ap (λ (K : Columns). bestOf best (map (λ I. criticalValue k e X (joinAt K (from + 1) I)) (choose left (columnsOf (cols - (from + 1)) (rest / 2))))) p)
           ∙ sym (ap (λ (R : Columns). bestOf best (map (λ I. criticalValue k e X (joinAt (columnsOf cols s) from I)) (choose (suc left) R))) (split true (eq-eqb (rest % 2) 1 q))
-            ∙ ap (bestOf best) (map-append (λ I. criticalValue k e X (joinAt (columnsOf cols s) from I)) (map (λ I. true ∷ I) (choose left R′)) (map (λ I. false ∷ I) (choose (suc left) R′))
-              ∙ ap₂ (λ (x y : List Float). x ++ y) (step-in (columnsOf cols s) (choose left R′)) (step-past (columnsOf cols s) (choose (suc left) R′)))
-            ∙ best-append best (map (λ I. criticalValue k e X (joinAt (set (columnsOf cols s) from true) (from + 1) I)) (choose left R′)) rest-values)
+          ∙ ap (bestOf best) (map-append (λ I. criticalValue k e X (joinAt (columnsOf cols s) from I)) (map (λ I. true ∷ I) (choose left R′)) (map (λ I. false ∷ I) (choose (suc left) R′))
+          ∙ ap₂ (λ (x y : List Float). x ++ y) (step-in (columnsOf cols s) (choose left R′)) (step-past (columnsOf cols s) (choose (suc left) R′)))
+          ∙ best-append best (map (λ I. criticalValue k e X (joinAt (set (columnsOf cols s) from true) (from + 1) I)) (choose left R′)) rest-values)
         where
           R′ : Columns
           R′ = columnsOf (cols - (from + 1)) (rest / 2)
@@ -202,7 +202,7 @@ module _ (cols k s rest from left : ℕ) (w : Walk cols k s rest from left) (som
   -- a later rejected column is not in the set
   later-apart : (j : ℕ) → T (has (columnsOf (cols - (from + 1)) (rest / 2)) j) → has (columnsOf cols s) (from + 1 + j) ≡ false
   later-apart j t = let e : from + suc j ≡ from + 1 + j = omega arith in
-    subst (λ (n : ℕ). has (columnsOf cols s) n ≡ false) e (w .apart (suc j) (subst (λ (R : Columns). T (has R (suc j))) (sym rest-split) t))
+      subst (λ (n : ℕ). has (columnsOf cols s) n ≡ false) e (w .apart (suc j) (subst (λ (R : Columns). T (has R (suc j))) (sym rest-split) t))
 
   pub walk-past : Walk cols k s (rest / 2) (from + 1) left
   walk-past = record { place = omega (arith, before-end); inside = w .inside; rests = half-room cols from rest before-end (w .rests); apart = later-apart; many = w .many }
@@ -210,8 +210,8 @@ module _ (cols k s rest from left : ℕ) (w : Walk cols k s rest from left) (som
   module _ (odd : rest % 2 ≡ 1) where
     pub free : has (columnsOf cols s) from ≡ false
     free = let e : from + 0 ≡ from = omega arith in
-      subst (λ (n : ℕ). has (columnsOf cols s) n ≡ false) e
-      (w .apart 0 (subst (λ (R : Columns). T (has R 0)) (sym (rest-split ∙ ap (λ (b : Bool). b ∷ columnsOf (cols - (from + 1)) (rest / 2)) (eq-eqb (rest % 2) 1 odd))) tt))
+        subst (λ (n : ℕ). has (columnsOf cols s) n ≡ false) e
+        (w .apart 0 (subst (λ (R : Columns). T (has R 0)) (sym (rest-split ∙ ap (λ (b : Bool). b ∷ columnsOf (cols - (from + 1)) (rest / 2)) (eq-eqb (rest % 2) 1 odd))) tt))
 
     pub chosen-fits : cols ≤ 32 → (v : ℕ) → v ≡ 2 ^ from → s + v < 2 ^ 32
     chosen-fits h v e = let l : 2 ^ cols ≤ 2 ^ 32 = pow-mono h in let p = put-lt cols s from (w .inside) before-end free in omega (arith, l, p, e)
@@ -220,12 +220,13 @@ module _ (cols k s rest from left : ℕ) (w : Walk cols k s rest from left) (som
     chosen-columns v e = ap (λ (x : ℕ). columnsOf cols (s + x)) e ∙ put-columns cols s from (w .inside) before-end free
 
     pub walk-in : (v : ℕ) → v ≡ 2 ^ from → (left ≡ 0 → ⊥) → Walk cols k (s + v) (rest / 2) (from + 1) (left - 1)
-    walk-in v e n = record
-      { place = omega (arith, before-end)
-      ; inside = subst (λ (x : ℕ). s + x < 2 ^ cols) (sym e) (put-lt cols s from (w .inside) before-end free)
-      ; rests = half-room cols from rest before-end (w .rests)
-      ; apart = λ j t. ap (λ (K : Columns). has K (from + 1 + j)) (chosen-columns v e) ∙ getD-set-other (columnsOf cols s) from (from + 1 + j) true false (λ q. omega arith) ∙ later-apart j t
-      ; many = omega (arith, w .many, n, ap size (chosen-columns v e), size-set (columnsOf cols s) from (omega (arith, columnsOf-length cols s, before-end)) free) }
+    walk-in v e n = record {
+      place = omega (arith, before-end);
+      inside = subst (λ (x : ℕ). s + x < 2 ^ cols) (sym e) (put-lt cols s from (w .inside) before-end free);
+      rests = half-room cols from rest before-end (w .rests);
+      apart = λ j t. ap (λ (K : Columns). has K (from + 1 + j)) (chosen-columns v e) ∙ getD-set-other (columnsOf cols s) from (from + 1 + j) true false (λ q. omega arith) ∙ later-apart j t;
+      many = omega (arith, w .many, n, ap size (chosen-columns v e), size-set (columnsOf cols s) from (omega (arith, columnsOf-length cols s, before-end)) free);
+    }
 
 pub half-falls : {t : ℕ} (r : ℕ) → (r ≡ 0 → ⊥) → r ≡ t → r / 2 < t
 half-falls r f e = omega (arith, f)

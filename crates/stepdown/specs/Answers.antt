@@ -80,12 +80,13 @@ blankRun n = record { refusal = n; steps = 0; records = replicate 32 noRecord; j
 
 unfoldable pub acceptedRun : Outcome → FullRun
 acceptedRun o =
-    record
-      { refusal = 0
-      ; steps = length (o .records)
-      ; records = padded 32 noRecord (o .records)
-      ; judged = padded 32 (judgedAs (Kept plusZero)) (map judgedAs (o .verdicts))
-      ; counts = padded 32 0 (o .counts) }
+    record {
+      refusal = 0;
+      steps = length (o .records);
+      records = padded 32 noRecord (o .records);
+      judged = padded 32 (judgedAs (Kept plusZero)) (map judgedAs (o .verdicts));
+      counts = padded 32 0 (o .counts);
+    }
 
 unfoldable pub fullAnswer : List Float → ℕ → ℕ → ℕ → ℕ → ℕ → ℕ → ℕ → FullRun
 unfolding tableRunRefusal acceptedRun tableRun

@@ -19,7 +19,6 @@ use Rattle.order.specs.Counting.{bit, count}
 infixl 70 _∩_
 infixl 65 _∪_
 infixl 65 _∖_
-
 abbrev pub Columns : Type 0
 Columns = List Bool
 

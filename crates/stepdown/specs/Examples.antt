@@ -83,9 +83,10 @@ examples =
     ∷ record { asked = ofTable W 8 2 2 1 4; told = run 2 (Rejected 1 (⁺ 0) ∷ Rejected 1 (⁺ 0) ∷ []) (1 ∷ 3 ∷ []) (step 1 (⁺ 0) ∷ []) }
     ∷ record { asked = ofTable W 8 2 2 1 9; told = run 0 (Rejected 1 (⁺ 4) ∷ Kept (⁺ 4) ∷ []) (1 ∷ 3 ∷ []) (step 1 (⁺ 4) ∷ []) }
     -- W's rows as observed, both offers idle: exactly rows 0 and 2 reject any
-    ∷ record
-        { asked = rows (tabulate 8 (λ g. anyRejected (tableRun W 8 2 1 1 4 g .verdicts)))
-        ; told = rows (true ∷ false ∷ true ∷ false ∷ false ∷ false ∷ false ∷ false ∷ []) }
+    ∷ record {
+      asked = rows (tabulate 8 (λ g. anyRejected (tableRun W 8 2 1 1 4 g .verdicts)));
+      told = rows (true ∷ false ∷ true ∷ false ∷ false ∷ false ∷ false ∷ false ∷ []);
+    }
     -- P: step 1 gives 4 and rejects two; offer 1 put back gives 2, offer 2 put back gives 3, and the larger keeps offer 3
     ∷ record { asked = ofTable P 4 3 2 1 4; told = run 1 (Rejected 1 (⁺ 4) ∷ Rejected 1 (⁺ 4) ∷ Kept (⁺ 3) ∷ []) (1 ∷ 1 ∷ 2 ∷ []) (step 1 (⁺ 4) ∷ step 2 (⁺ 3) ∷ []) }
     ∷ record { asked = ofP (true ∷ false ∷ true ∷ []); told = value (⁺ 2) }

@@ -50,10 +50,10 @@ unfoldable pub pushed : Top → Float → Top
 pushed t x =
     cond (smaller (t .d) x)
     (cond (smaller (t .c) x)
-      (cond (smaller (t .b) x)
-        (cond (smaller (t .a) x) (four x (t .a) (t .b) (t .c)) (four (t .a) x (t .b) (t .c)))
-        (four (t .a) (t .b) x (t .c)))
-      (four (t .a) (t .b) (t .c) x))
+    (cond (smaller (t .b) x)
+    (cond (smaller (t .a) x) (four x (t .a) (t .b) (t .c)) (four (t .a) x (t .b) (t .c)))
+    (four (t .a) (t .b) x (t .c)))
+    (four (t .a) (t .b) (t .c) x))
     t
 
 unfoldable pub nth : Top → ℕ → Float
@@ -138,9 +138,10 @@ verdictIn t j = verdictOver plusZero (take (t .steps) (t .records)) (take (t .st
 unfoldable pub finishedRun : Trace → List Float → ℕ → ℕ → ℕ → FullRun
 unfolding verdictIn tabulate atLeast rowsOf
 finishedRun t table rows columns observed =
-    record
-      { refusal = 0
-      ; steps = t .steps
-      ; records = t .records
-      ; judged = padded 32 (judgedAs (Kept plusZero)) (map judgedAs (tabulate columns (λ j. verdictIn t j)))
-      ; counts = padded 32 0 (tabulate columns (λ j. atLeast (rowsOf rows columns table) (getD table (observed * columns + j) nan) j)) }
+    record {
+      refusal = 0;
+      steps = t .steps;
+      records = t .records;
+      judged = padded 32 (judgedAs (Kept plusZero)) (map judgedAs (tabulate columns (λ j. verdictIn t j)));
+      counts = padded 32 0 (tabulate columns (λ j. atLeast (rowsOf rows columns table) (getD table (observed * columns + j) nan) j));
+    }

@@ -1,10 +1,10 @@
 // One step of a run that has passed its checks.
-use super::bits;
-use super::putback;
-use super::quantile;
 use super::Record;
 use super::Run;
 use super::Step;
+use super::bits;
+use super::putback;
+use super::quantile;
 ghost use mathlib.Core.Path.{_≡_};
 ghost use Prim.Native.Nat.{_≤_};
 ghost use lib.ListN.{length, drop};
@@ -36,7 +36,16 @@ fn bar(r: Run, table: &[f64], work: &mut [f64]) -> f64
     if r.steps == 0 {
         return quantile::critical(table, work, r.rows, r.columns, r.k, e, all);
     }
-    putback::put_back(table, work, r.rows, r.columns, r.k, e, all - r.rejected, r.rejected)
+    putback::put_back(
+        table,
+        work,
+        r.rows,
+        r.columns,
+        r.k,
+        e,
+        all - r.rejected,
+        r.rejected,
+    )
 }
 
 // Whether a step that rejected the columns of `new` ends the run: nothing new, fewer than k in all, or none left.
@@ -67,7 +76,20 @@ pub(crate) fn advance(r: Run, table: &[f64], work: &mut [f64]) -> Step
     let ended = finished(r.columns, r.k, new, rejected);
     let number = r.steps + 1;
     Step {
-        run: Run { rows: r.rows, columns: r.columns, k: r.k, a: r.a, b: r.b, observed: r.observed, rejected, steps: number, ended },
-        mark: Record { step: number, critical: c },
+        run: Run {
+            rows: r.rows,
+            columns: r.columns,
+            k: r.k,
+            a: r.a,
+            b: r.b,
+            observed: r.observed,
+            rejected,
+            steps: number,
+            ended,
+        },
+        mark: Record {
+            step: number,
+            critical: c,
+        },
     }
 }

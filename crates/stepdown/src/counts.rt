@@ -5,7 +5,14 @@ ghost use Rattle.stepdown.specs.Tables.{rowsOf};
 ghost use Rattle.stepdown.specs.Method.{atLeast};
 ghost use Rattle.stepdown.specs.Internal.{Ready};
 
-pub(crate) fn at_least(table: &[f64], rows: usize, columns: usize, k: usize, j: usize, v: f64) -> usize
+pub(crate) fn at_least(
+    table: &[f64],
+    rows: usize,
+    columns: usize,
+    k: usize,
+    j: usize,
+    v: f64,
+) -> usize
     requires { ⌜ Ready (now table) rows columns k × (j < columns) ⌝ }
     ensures { λ r. ⌜ r ≡ atLeast (rowsOf rows columns (now (table .entry))) v j ⌝ }
 {

@@ -24,13 +24,33 @@ fn push(t: Top, x: f64) -> Top
         if t.c < x {
             if t.b < x {
                 if t.a < x {
-                    return Top { a: x, b: t.a, c: t.b, d: t.c };
+                    return Top {
+                        a: x,
+                        b: t.a,
+                        c: t.b,
+                        d: t.c,
+                    };
                 }
-                return Top { a: t.a, b: x, c: t.b, d: t.c };
+                return Top {
+                    a: t.a,
+                    b: x,
+                    c: t.b,
+                    d: t.c,
+                };
             }
-            return Top { a: t.a, b: t.b, c: x, d: t.c };
+            return Top {
+                a: t.a,
+                b: t.b,
+                c: x,
+                d: t.c,
+            };
         }
-        return Top { a: t.a, b: t.b, c: t.c, d: x };
+        return Top {
+            a: t.a,
+            b: t.b,
+            c: t.c,
+            d: x,
+        };
     }
     t
 }
@@ -56,7 +76,12 @@ pub(crate) fn kmax(row: &[f64], set: u32, k: usize) -> f64
     ensures { λ r. ⌜ r ≡ kMax k (columnsOf (length (now (row .entry))) set) (now (row .entry)) ⌝ }
 {
     let low = f64::from_bits(0xFFF0_0000_0000_0000);
-    let mut t = Top { a: low, b: low, c: low, d: low };
+    let mut t = Top {
+        a: low,
+        b: low,
+        c: low,
+        d: low,
+    };
     let mut s = set;
     let mut i: usize = 0;
     while i < row.len() {

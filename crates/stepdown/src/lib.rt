@@ -9,6 +9,7 @@ mod quantile; // c(K): a quantile of the k-max values, with the work buffer
 mod refusal; // what is turned away
 mod smallest; // the m-th smallest of a slice
 mod tracing; // all steps of a run, and the verdicts read off them
+
 ghost use mathlib.Core.Path.{_≡_};
 ghost use lib.ListN.{length};
 ghost use Rattle.stepdown.specs.Answers.{beginAnswer, stepAnswer, stepWork, blankRun, fullAnswer, fullWork};
@@ -73,14 +74,31 @@ pub enum StepAnswer {
 
 impl Run {
     // A run before step 1: nothing rejected, no step taken.
-    pub fn begin(rows: usize, columns: usize, k: usize, a: usize, b: usize, observed: usize) -> Beginning
+    pub fn begin(
+        rows: usize,
+        columns: usize,
+        k: usize,
+        a: usize,
+        b: usize,
+        observed: usize,
+    ) -> Beginning
         ensures { λ r. ⌜ r ≡ beginAnswer rows columns k a b observed ⌝ }
     {
         let n = refusal::of_beginning(rows, columns, k, a, b, observed);
         if n != 0 {
             return Beginning::Refused(n);
         }
-        Beginning::Begun(Run { rows, columns, k, a, b, observed, rejected: 0, steps: 0, ended: false })
+        Beginning::Begun(Run {
+            rows,
+            columns,
+            k,
+            a,
+            b,
+            observed,
+            rejected: 0,
+            steps: 0,
+            ended: false,
+        })
     }
 
     // The next step over a lent table, with a work buffer of a place for each row.
@@ -109,7 +127,16 @@ pub fn refused(number: u32) -> FullRun
 }
 
 // All steps of a table at once: the same as stepping from the beginning.
-pub fn full_run(table: &[f64], work: &mut [f64], rows: usize, columns: usize, k: usize, a: usize, b: usize, observed: usize) -> FullRun
+pub fn full_run(
+    table: &[f64],
+    work: &mut [f64],
+    rows: usize,
+    columns: usize,
+    k: usize,
+    a: usize,
+    b: usize,
+    observed: usize,
+) -> FullRun
     ensures { λ r. ⌜ r ≡ fullAnswer (now (table .entry)) rows columns k a b observed (length (now (work .entry))) ⌝ }
     ensures { λ r. ⌜ now (work .exit) ≡ fullWork (now (table .entry)) rows columns k a b observed (now (work .entry)) ⌝ }
 {
@@ -117,7 +144,17 @@ pub fn full_run(table: &[f64], work: &mut [f64], rows: usize, columns: usize, k:
     if n != 0 {
         return tracing::blank(n);
     }
-    let start = Run { rows, columns, k, a, b, observed, rejected: 0, steps: 0, ended: false };
+    let start = Run {
+        rows,
+        columns,
+        k,
+        a,
+        b,
+        observed,
+        rejected: 0,
+        steps: 0,
+        ended: false,
+    };
     let t = tracing::all_steps(start, table, work);
     advance::clear(work, rows);
     tracing::finish(t, table, rows, columns, k, observed)

@@ -26,7 +26,15 @@ fn fill(table: &[f64], work: &mut [f64], rows: usize, cols: usize, k: usize, set
 }
 
 // The critical value of the columns of `set`; of the work buffer only the first `rows` places change.
-pub(crate) fn critical(table: &[f64], work: &mut [f64], rows: usize, cols: usize, k: usize, e: usize, set: u32) -> f64
+pub(crate) fn critical(
+    table: &[f64],
+    work: &mut [f64],
+    rows: usize,
+    cols: usize,
+    k: usize,
+    e: usize,
+    set: u32,
+) -> f64
     requires { ⌜ Ready (now table) rows cols k × (rows ≤ length (now work)) × (k ≤ size (columnsOf cols set)) × (e < rows) ⌝ }
     ensures { λ r. ⌜ (r ≡ criticalValue k e (rowsOf rows cols (now (table .entry))) (columnsOf cols set)) × (drop rows (now (work .exit)) ≡ drop rows (now (work .entry))) ⌝ }
 {

@@ -1,6 +1,6 @@
 // What is turned away, each number where its condition is the first to hold in the stated order.
-use super::bits;
 use super::Run;
+use super::bits;
 ghost use mathlib.Core.Path.{_≡_};
 ghost use mathlib.Core.Bool.{false};
 ghost use lib.ListN.{length};
@@ -48,7 +48,14 @@ fn bad_level(a: usize, b: usize) -> bool
 }
 
 // A beginning: 4, 3, 10.
-pub(crate) fn of_beginning(rows: usize, columns: usize, k: usize, a: usize, b: usize, observed: usize) -> u32
+pub(crate) fn of_beginning(
+    rows: usize,
+    columns: usize,
+    k: usize,
+    a: usize,
+    b: usize,
+    observed: usize,
+) -> u32
     ensures { λ r. ⌜ r ≡ refusals.beginRefusal rows columns k a b observed ⌝ }
 {
     if bad_shape(rows, columns, k) {
@@ -64,7 +71,16 @@ pub(crate) fn of_beginning(rows: usize, columns: usize, k: usize, a: usize, b: u
 }
 
 // A full run of a table: 4, 3, 9, 10, 11, 12.
-pub(crate) fn of_table(table: &[f64], rows: usize, columns: usize, k: usize, a: usize, b: usize, observed: usize, places: usize) -> u32
+pub(crate) fn of_table(
+    table: &[f64],
+    rows: usize,
+    columns: usize,
+    k: usize,
+    a: usize,
+    b: usize,
+    observed: usize,
+    places: usize,
+) -> u32
     ensures { λ r. ⌜ r ≡ refusals.tableRunRefusal (now (table .entry)) rows columns k a b observed places ⌝ }
 {
     if bad_shape(rows, columns, k) {

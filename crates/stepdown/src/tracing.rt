@@ -1,12 +1,12 @@
 // All steps of a run: their records and rejected sets, and the verdicts read off them.
-use super::advance;
-use super::counts;
 use super::FullRun;
 use super::Judged;
 use super::Record;
 use super::Run;
 use super::Step;
 use super::Verdict;
+use super::advance;
+use super::counts;
 ghost use mathlib.Core.Path.{_≡_};
 ghost use mathlib.Core.Bool.{false};
 ghost use Prim.Native.Nat.{_<_, _≤_};
@@ -26,11 +26,22 @@ pub struct Trace {
 pub(crate) fn blank(refusal: u32) -> FullRun
     ensures { λ r. ⌜ r ≡ blankRun refusal ⌝ }
 {
-    let r = Record { step: 0, critical: 0.0 };
-    let j = Judged { verdict: Verdict::Kept(0.0) };
+    let r = Record {
+        step: 0,
+        critical: 0.0,
+    };
+    let j = Judged {
+        verdict: Verdict::Kept(0.0),
+    };
     let records = [r; 32];
     let judged = [j; 32];
-    FullRun { refusal, steps: 0, records, judged, counts: [0usize; 32] }
+    FullRun {
+        refusal,
+        steps: 0,
+        records,
+        judged,
+        counts: [0usize; 32],
+    }
 }
 
 fn noted(t: Trace, i: usize, s: Step) -> Trace
@@ -51,8 +62,15 @@ pub(crate) fn all_steps(start: Run, table: &[f64], work: &mut [f64]) -> Trace
     requires { ⌜ Going (now table) start × (start .rows ≤ length (now work)) × (start .steps ≡ 0) × (start .ended ≡ false) ⌝ }
     ensures { λ r. ⌜ (r ≡ traceOf (stepsOf (everyColumn (start .columns)) (rowsOf (start .rows) (start .columns) (now (table .entry))) start)) × (drop (start .rows) (now (work .exit)) ≡ drop (start .rows) (now (work .entry))) ⌝ }
 {
-    let mark = Record { step: 0, critical: 0.0 };
-    let mut t = Trace { steps: 0, records: [mark; 32], sets: [0u32; 32] };
+    let mark = Record {
+        step: 0,
+        critical: 0.0,
+    };
+    let mut t = Trace {
+        steps: 0,
+        records: [mark; 32],
+        sets: [0u32; 32],
+    };
     let mut run = start;
     let mut i: usize = 0;
     while i < 32 {
@@ -88,7 +106,14 @@ fn verdict(t: Trace, j: usize) -> Verdict
 }
 
 // The full run that a trace makes: verdicts and counts of the columns.
-pub(crate) fn finish(t: Trace, table: &[f64], rows: usize, columns: usize, k: usize, observed: usize) -> FullRun
+pub(crate) fn finish(
+    t: Trace,
+    table: &[f64],
+    rows: usize,
+    columns: usize,
+    k: usize,
+    observed: usize,
+) -> FullRun
     requires { ⌜ Ready (now table) rows columns k × (observed < rows) × Traced t ⌝ }
     ensures { λ r. ⌜ r ≡ finishedRun t (now (table .entry)) rows columns observed ⌝ }
 {

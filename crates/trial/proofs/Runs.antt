@@ -89,7 +89,7 @@ module _ (t : Trial) (places work r : ℕ) (e : r ≡ trialRefusal t) where
     last : runCallRefusal t places work ≡ cond (ltb places (m * t .offers)) 12 (cond (ltb work m) 12 0)
     unfolding runCallRefusal trialRefusal firstRefusal
     last = refused-next (trialChecks t) (tooShort places (rowTotal t * t .offers) ++ tooShort work (rowTotal t)) (trialChecks-numbered t) (sym e ∙ h)
-      ∙ ap (λ (n : ℕ). cond (ltb places (n * t .offers)) 12 (cond (ltb work n) 12 0)) (sym m-is)
+        ∙ ap (λ (n : ℕ). cond (ltb places (n * t .offers)) 12 (cond (ltb work n) 12 0)) (sym m-is)
 
     pub run-short : places < m * t .offers → 12 ≡ runCallRefusal t places work
     run-short l = sym (last ∙ ap (λ (b : Bool). cond b 12 (cond (ltb work m) 12 0)) (lt-ltb places (m * t .offers) l))

@@ -1,8 +1,10 @@
 -- Places that the counts of a record don't use change nothing: two records that agree on the others have the same
---   refusal-same                     refusal
+--   checks-same, refusal-same        checks, and the refusal that comes of them
 --   table-same, rows-same            table
 --   run-same                         full run
 --   call-same, buffer-same           answer of a call for the table, and buffer after it
+--   answer-same                      answer of a call for the full run
+--   runTable-same, runWork-same      buffers after it
 use Prim.Native.Nat.{ℕ, zero, suc, _+_, _*_, _^_}
 use native.Mathlib.Omega.{arith}
 use native.Mathlib.Nat.{suc-mul}
@@ -14,13 +16,15 @@ use lib.Seq.{take-take}
 use lib.Dec.{eqb}
 use lib.IntN.{ℤ}
 use lib.Ieee.{Float, binary64, ofInt}
-use Rattle.stepdown.specs.Buffers.{written}
+use Rattle.stepdown.specs.Buffers.{written, cleared}
 use Rattle.stepdown.specs.Refusals.{Checks, firstRefusal, tooShort}
 use Rattle.stepdown.specs.Tables.{rowsOf}
 use Rattle.stepdown.specs.Runs.{tabulate}
 use Rattle.trial.specs.Exchange.{signedSum, byOffer, rowTotal, rowOf, trialRows, joined, tableOf, trialRun}
 use Rattle.trial.specs.Refusals.{badCounts, trialChecks, trialRefusal}
-use Rattle.trial.specs.Lent.{tableCallRefusal, tableBuffer}
+use Rattle.stepdown.specs.Answers.{acceptedRun, blankRun}
+use Rattle.stepdown.specs.Runs.{Outcome}
+use Rattle.trial.specs.Lent.{tableCallRefusal, tableBuffer, runCallRefusal, trialAnswer, runTable, runWork}
 use Rattle.trial.specs.Used.{SameUsed}
 use Rattle.trial.specs.declared.Trial.{Trial}
 use Rattle.trial.proofs.Tables.{drop-take}
@@ -46,7 +50,7 @@ unfolding tableOf trialRows rowTotal rowOf entriesOf
 tableOf-entries t = refl
 
 module _ (t u : Trial) (s : SameUsed t u) where
-  checks-same : trialChecks t ≡ trialChecks u
+  pub checks-same : trialChecks t ≡ trialChecks u
   unfolding trialChecks badCounts
   checks-same = rw (s .codes-same, s .digits-same, s .differences-same, s .a-same, s .b-same, s .k-same, s .offers-same, s .pairs-same)
 
@@ -80,3 +84,21 @@ module _ (t u : Trial) (s : SameUsed t u) where
   pub buffer-same : (buf : List Float) → tableBuffer t buf ≡ tableBuffer u buf
   unfolding tableBuffer
   buffer-same buf = ap₂ (λ (n : ℕ) (xs : List Float). cond (eqb n 0) (written xs buf) buf) (call-same (length buf)) table-same
+
+  asked-same : (places work : ℕ) → runCallRefusal t places work ≡ runCallRefusal u places work
+  unfolding runCallRefusal
+  asked-same places work =
+      ap₂ (λ (cs : Checks) (m : ℕ). firstRefusal (cs ++ (tooShort places (m * t .offers) ++ tooShort work m))) checks-same rows-same
+      ∙ ap (λ (n : ℕ). firstRefusal (trialChecks u ++ (tooShort places (rowTotal u * n) ++ tooShort work (rowTotal u)))) (s .offers-same)
+
+  pub answer-same : (places work : ℕ) → trialAnswer t places work ≡ trialAnswer u places work
+  unfolding trialAnswer
+  answer-same places work = ap₂ (λ (n : ℕ) (o : Outcome). cond (eqb n 0) (acceptedRun o) (blankRun n)) (asked-same places work) run-same
+
+  pub runTable-same : (buf : List Float) (work : ℕ) → runTable t buf work ≡ runTable u buf work
+  unfolding runTable
+  runTable-same buf work = ap₂ (λ (n : ℕ) (xs : List Float). cond (eqb n 0) (written xs buf) buf) (asked-same (length buf) work) table-same
+
+  pub runWork-same : (places : ℕ) (buf : List Float) → runWork t places buf ≡ runWork u places buf
+  unfolding runWork
+  runWork-same places buf = ap₂ (λ (n m : ℕ). cond (eqb n 0) (cleared m buf) buf) (asked-same places (length buf)) rows-same

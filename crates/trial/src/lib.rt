@@ -2,8 +2,8 @@
 // The definitions are in specs/, their laws in proofs/.
 mod checks;
 mod entries;
-use stepdown::FullRun;
 
+use stepdown::FullRun;
 ghost use mathlib.Core.Path.{_≡_};
 ghost use lib.ListN.{length};
 ghost use Rattle.trial.specs.Refusals.{trialRefusal};

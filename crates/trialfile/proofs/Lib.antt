@@ -12,3 +12,4 @@ pub mod Signed
 pub mod Filling
 pub mod Taken
 pub mod Examples
+pub mod Unused

@@ -36,15 +36,16 @@ same-length : tie.Need-same-length
 same-length c = search needs
 
 returns-2 : tie.Need-returns-2
-returns-2 c = 
+returns-2 c =
     let l = c .before .before .before in
     let a = l .before .before .before .before in
     let o = a .before .before .before in
     let i = a .before .before .if1 .left in
     let w = o .before .before .before .args .work .now in
-    let z = sym (o .of-table .ensures) ∙ i in
-    (full-is _ _ _ _ _ _ _ w _ (o .of-table .ensures) _ _ i (table-seen _ _ _ _ _ _ _ _ z) (a .all-steps .ensures .0) (c .finish .ensures),
-      work-zeroed _ _ _ _ _ _ _ w _ (o .of-table .ensures) _ _ i (a .all-steps .ensures .1) (l .clear .ensures))
+    let z = sym (o .of-table .ensures) ∙ i in (
+      full-is _ _ _ _ _ _ _ w _ (o .of-table .ensures) _ _ i (table-seen _ _ _ _ _ _ _ _ z) (a .all-steps .ensures .0) (c .finish .ensures),
+      work-zeroed _ _ _ _ _ _ _ w _ (o .of-table .ensures) _ _ i (a .all-steps .ensures .1) (l .clear .ensures),
+    )
 
 pub full-run-spec : {M : Type 1} → statement M
 full-run-spec =

@@ -56,7 +56,7 @@ same-length : tie.Need-same-length
 same-length c = search needs
 
 returns : tie.Need-returns
-returns c = 
+returns c =
     let g = c .before .before .before .before .before .before .before .before .before .before .before .before .before .before .before .pre .0 in
     let b = c .before .before .before .before .before .before .before .before .before .before .before .bar .ensures in
     (advance-is _ _ g _ _ _ (c .before .before .before .before .before .before .all-of .ensures) (b .0) _ (part-row _ _ _ _ _ (g .ready) (g .seen)) (c .before .before .before .above .ensures) _ (c .before .finished .ensures), b .1)

@@ -45,13 +45,13 @@ loop-less : tie.Need-loop-less Inv-loop μ-loop
 loop-less c = search needs
 
 loop-again : tie.Need-loop-again Inv-loop μ-loop
-loop-again c = 
+loop-again c =
     let t = c .before .before .before in
     let l = t .before .loop .inv in
     ⊎-elim
-      (λ w. (omega arith, l .1, mark-room _ _ _ _ (l .2) (w .1 .ensures) (w .2), mark-in _ _ _ _ (t .loop-test .taken) _ _ _ _ (sym (c .before .marked .ensures) ∙ w .0 .taken) (w .1 .ensures) (w .2) (l .3)))
-      (λ w. (omega arith, l .1, mark-keep _ _ _ (l .2) (w .1), mark-past _ _ _ _ (t .loop-test .taken) _ _ _ (sym (c .before .marked .ensures) ∙ w .0 .left) (w .1) (l .3)))
-      (c .if1 .came)
+    (λ w. (omega arith, l .1, mark-room _ _ _ _ (l .2) (w .1 .ensures) (w .2), mark-in _ _ _ _ (t .loop-test .taken) _ _ _ _ (sym (c .before .marked .ensures) ∙ w .0 .taken) (w .1 .ensures) (w .2) (l .3)))
+    (λ w. (omega arith, l .1, mark-keep _ _ _ (l .2) (w .1), mark-past _ _ _ _ (t .loop-test .taken) _ _ _ (sym (c .before .marked .ensures) ∙ w .0 .left) (w .1) (l .3)))
+    (c .if1 .came)
 
 returns : tie.Need-returns Inv-loop μ-loop
 returns c = mark-done _ _ _ _ _ _ (c .loop-test .left) (c .before .loop .inv .3)

@@ -30,12 +30,12 @@ loop-less : tie.Need-loop-less Inv-loop μ-loop
 loop-less c = search needs
 
 loop-again : tie.Need-loop-again Inv-loop μ-loop
-loop-again c = 
+loop-again c =
     let l = c .before .before .loop .inv in
     ⊎-elim
-      (λ w. (omega arith, omega arith, size-in _ _ _ (c .before .loop-test .taken) _ _ _ (w .0 .taken) (w .1) (l .2)))
-      (λ w. (omega arith, omega arith, size-past _ _ _ (c .before .loop-test .taken) _ _ _ (w .0 .left) (w .1) (l .2)))
-      (c .if1 .came)
+    (λ w. (omega arith, omega arith, size-in _ _ _ (c .before .loop-test .taken) _ _ _ (w .0 .taken) (w .1) (l .2)))
+    (λ w. (omega arith, omega arith, size-past _ _ _ (c .before .loop-test .taken) _ _ _ (w .0 .left) (w .1) (l .2)))
+    (c .if1 .came)
 
 returns : tie.Need-returns Inv-loop μ-loop
 returns c = size-done _ _ _ _ _ (c .loop-test .left) (c .before .loop .inv .2)

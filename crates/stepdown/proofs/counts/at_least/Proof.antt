@@ -46,13 +46,13 @@ loop-less : tie.Need-loop-less Inv-loop μ-loop
 loop-less c = search needs
 
 loop-again : tie.Need-loop-again Inv-loop μ-loop
-loop-again c = 
+loop-again c =
     let t = c .before .before in
     let l = t .before .loop .inv in
     ⊎-elim
-      (λ w. (omega arith, l .1, l .2, omega arith, tally-in _ _ _ _ _ _ (t .loop-test .taken) (l .2) _ _ _ (w .0 .taken) (w .1) (l .4)))
-      (λ w. (omega arith, l .1, l .2, omega arith, tally-past _ _ _ _ _ _ (t .loop-test .taken) (l .2) _ _ _ (w .0 .left) (w .1) (l .4)))
-      (c .if1 .came)
+    (λ w. (omega arith, l .1, l .2, omega arith, tally-in _ _ _ _ _ _ (t .loop-test .taken) (l .2) _ _ _ (w .0 .taken) (w .1) (l .4)))
+    (λ w. (omega arith, l .1, l .2, omega arith, tally-past _ _ _ _ _ _ (t .loop-test .taken) (l .2) _ _ _ (w .0 .left) (w .1) (l .4)))
+    (c .if1 .came)
 
 returns : tie.Need-returns Inv-loop μ-loop
 returns c = let l = c .before .loop .inv in tally-end _ _ _ _ _ _ _ (c .loop-test .left) (l .4)

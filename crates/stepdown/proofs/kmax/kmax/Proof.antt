@@ -49,13 +49,18 @@ loop-less : tie.Need-loop-less Inv-loop μ-loop
 loop-less c = search needs
 
 loop-again : tie.Need-loop-again Inv-loop μ-loop
-loop-again c = 
-    let l = c .before .before .loop .inv in
-    (omega arith, l .1, l .2, l .3, l .4,
+loop-again c =
+    let l = c .before .before .loop .inv in (
+      omega arith,
+      l .1,
+      l .2,
+      l .3,
+      l .4,
       ⊎-elim
-      (λ w. turn-push _ _ _ _ (c .before .loop-test .taken) (l .1) (w .0 .taken) (w .3 ∙ w .2 .ensures) (l .5))
-      (λ w. turn-skip _ _ _ _ (c .before .loop-test .taken) (l .1) (w .0 .left) (w .1) (l .5))
-      (c .if1 .came))
+          (λ w. turn-push _ _ _ _ (c .before .loop-test .taken) (l .1) (w .0 .taken) (w .3 ∙ w .2 .ensures) (l .5))
+          (λ w. turn-skip _ _ _ _ (c .before .loop-test .taken) (l .1) (w .0 .left) (w .1) (l .5))
+          (c .if1 .came),
+    )
 
 nth-of-requires : tie.Need-nth-of-requires Inv-loop μ-loop
 nth-of-requires c κs = search needs
@@ -64,7 +69,7 @@ plus-zero-requires : tie.Need-plus-zero-requires Inv-loop μ-loop
 plus-zero-requires c κs = search needs
 
 returns : tie.Need-returns Inv-loop μ-loop
-returns c = 
+returns c =
     let l = c .before .before .before .loop .inv in
     c .plus-zero .ensures ∙ ap unsigned (c .before .nth-of .ensures) ∙ kMax-found _ _ _ _ _ _ (l .1) (l .2) (l .3) (l .4) (c .before .before .loop-test .left) (l .5)
 

@@ -72,13 +72,14 @@ walk-same-length-3 : (t : ℕ) → walk-lts.Need-same-length-3 (calls t) (walk-a
 walk-same-length-3 t c = search needs
 
 walk-returns-4 : (t : ℕ) → walk-lts.Need-returns-4 (calls t) (walk-at t) walk.Post
-walk-returns-4 t c = 
+walk-returns-4 t c =
     let v = c .before .before in
     let w = v .before .before .before .before in
     let q = w .before .before .before .before .before .before .before .before .pre .1 in
-    let i = w .before .before .before .before .if3 .left in
-    (v .walk2 .ensures .0 ∙ in-value _ _ _ _ _ _ _ _ (before-end _ _ _ _ _ _ (q .3) i) _ _ _ (w .before .before .before .before .before .if1 .left) (w .before .before .before .if4 .taken) (chosen-columns _ _ _ _ _ _ (q .3) i (w .before .before .before .if4 .taken) _ (w .before .before .bit .ensures)) (w .walk .ensures .0),
-      v .walk2 .ensures .1 ∙ w .walk .ensures .1)
+    let i = w .before .before .before .before .if3 .left in (
+      v .walk2 .ensures .0 ∙ in-value _ _ _ _ _ _ _ _ (before-end _ _ _ _ _ _ (q .3) i) _ _ _ (w .before .before .before .before .before .if1 .left) (w .before .before .before .if4 .taken) (chosen-columns _ _ _ _ _ _ (q .3) i (w .before .before .before .if4 .taken) _ (w .before .before .bit .ensures)) (w .walk .ensures .0),
+      v .walk2 .ensures .1 ∙ w .walk .ensures .1,
+    )
 
 walk-add-walk-3 : (t : ℕ) → walk-lts.Need-add-walk-3 (calls t) (walk-at t) walk.Post
 walk-add-walk-3 t c = search needs
@@ -90,7 +91,7 @@ walk-same-length-4 : (t : ℕ) → walk-lts.Need-same-length-4 (calls t) (walk-a
 walk-same-length-4 t c = search needs
 
 walk-returns-5 : (t : ℕ) → walk-lts.Need-returns-5 (calls t) (walk-at t) walk.Post
-walk-returns-5 t c = 
+walk-returns-5 t c =
     let v = c .before .before in
     let q = v .before .before .before .before .before .before .before .pre .1 in
     let i = v .before .before .before .if3 .left in

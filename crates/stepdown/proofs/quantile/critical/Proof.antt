@@ -30,7 +30,7 @@ sub-mth-smallest : tie.Need-sub-mth-smallest
 sub-mth-smallest c = search needs
 
 mth-smallest-requires : tie.Need-mth-smallest-requires
-mth-smallest-requires c κs = 
+mth-smallest-requires c κs =
     let f = c .before .before .before in
     let p = f .before .before .before .before .pre in
     front-rank _ _ _ _ _ _ (p .0) (p .3) _ _ (f .fill .ensures)
@@ -39,7 +39,7 @@ same-length : tie.Need-same-length
 same-length c = search needs
 
 returns : tie.Need-returns
-returns c = 
+returns c =
     let f = c .before .before .before .before in
     let p = f .before .before .before .before .pre in
     (quantile-is _ _ _ _ _ _ (p .0) (p .3) _ _ (f .fill .ensures) (c .mth-smallest .ensures), back-is _ _ _ _ _ _ (p .0) (p .3) _ _ (f .fill .ensures))

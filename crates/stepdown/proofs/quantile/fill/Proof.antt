@@ -59,7 +59,7 @@ loop-less : tie.Need-loop-less Inv-loop μ-loop
 loop-less c = search needs
 
 loop-again : tie.Need-loop-again Inv-loop μ-loop
-loop-again c = 
+loop-again c =
     let l = c .before .before .before .loop .inv in
     (omega arith, l .1, l .2, l .3, simp length-set (l .4), row-turn _ _ _ _ _ _ (l .1) (c .before .before .loop-test .taken) _ _ (l .2) (l .5) (c .kmax .ensures))
 

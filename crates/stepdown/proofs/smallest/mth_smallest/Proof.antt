@@ -58,31 +58,34 @@ count-between-requires-2 : tie.Need-count-between-requires-2 Inv-loop μ-loop
 count-between-requires-2 c κs = search needs
 
 loop-less : tie.Need-loop-less Inv-loop μ-loop
-loop-less c = 
+loop-less c =
     let p = c .before .before in
     let l = p .before .before .before .before .loop .inv in
     let k = p .before .before .pick .ensures in
     ⊎-elim
-      (λ w. less-low _ _ (l .0) _ _ _ _ _ (l .3) (k .0) (k .1) (p .count-up-to .ensures) (w .1) (w .2) (c .count-between2 .ensures))
-      (λ w. less-high _ _ (l .0) _ _ _ _ _ (l .3) (k .0) (k .1) (p .count-up-to .ensures) (w .1) (w .2) (c .count-between2 .ensures))
-      (c .before .if1 .came)
+    (λ w. less-low _ _ (l .0) _ _ _ _ _ (l .3) (k .0) (k .1) (p .count-up-to .ensures) (w .1) (w .2) (c .count-between2 .ensures))
+    (λ w. less-high _ _ (l .0) _ _ _ _ _ (l .3) (k .0) (k .1) (p .count-up-to .ensures) (w .1) (w .2) (c .count-between2 .ensures))
+    (c .before .if1 .came)
 
 loop-again : tie.Need-loop-again Inv-loop μ-loop
-loop-again c = 
+loop-again c =
     let p = c .before .before in
     let l = p .before .before .before .before .loop .inv in
-    let k = p .before .before .pick .ensures in
-    (l .0, l .1, l .2,
+    let k = p .before .before .pick .ensures in (
+      l .0,
+      l .1,
+      l .2,
       ⊎-elim
-      (λ w. turn-low _ _ (l .0) _ _ _ _ _ (l .3) (k .0) (k .1) (p .count-up-to .ensures) (w .1) (w .2) (w .0 .taken) (c .count-between2 .ensures))
-      (λ w. turn-high _ _ (l .0) _ _ _ _ _ (l .3) (k .0) (k .1) (p .count-up-to .ensures) (w .1) (w .2) (w .0 .left) (c .count-between2 .ensures))
-      (c .before .if1 .came))
+          (λ w. turn-low _ _ (l .0) _ _ _ _ _ (l .3) (k .0) (k .1) (p .count-up-to .ensures) (w .1) (w .2) (w .0 .taken) (c .count-between2 .ensures))
+          (λ w. turn-high _ _ (l .0) _ _ _ _ _ (l .3) (k .0) (k .1) (p .count-up-to .ensures) (w .1) (w .2) (w .0 .left) (c .count-between2 .ensures))
+          (c .before .if1 .came),
+    )
 
 plus-zero-requires : tie.Need-plus-zero-requires Inv-loop μ-loop
 plus-zero-requires c κs = search needs
 
 returns : tie.Need-returns Inv-loop μ-loop
-returns c = 
+returns c =
     let l = c .before .before .loop .inv in
     let n : c .before .before .loop .n ≡ 0 = omega (arith, c .before .loop-test .left) in
     c .plus-zero .ensures ∙ smallest-found _ _ _ _ (l .0) (l .1) (l .2) (l .3 .bottom) (l .3 .under) (l .3 .reach) (sym (l .3 .inside) ∙ n) (l .3 .roof)

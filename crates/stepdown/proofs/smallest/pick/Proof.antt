@@ -37,7 +37,7 @@ inside-requires : tie.Need-inside-requires Inv-loop μ-loop
 inside-requires c κs = search needs
 
 returns : tie.Need-returns Inv-loop μ-loop
-returns c = 
+returns c =
     let t = c .before .before .before .before in
     (t .loop-test .taken, true-T (between _ _ _) (sym (c .before .before .inside .ensures) ∙ c .before .if1 .taken))
 
@@ -51,13 +51,13 @@ loop-less : tie.Need-loop-less Inv-loop μ-loop
 loop-less c = search needs
 
 loop-again : tie.Need-loop-again Inv-loop μ-loop
-loop-again c = 
+loop-again c =
     let t = c .before .before .before in
     let l = t .before .loop .inv in
     ⊎-elim
-      (λ w. (omega arith, skip-in _ _ _ _ _ (t .loop-test .taken) (sym (c .before .inside .ensures) ∙ w .0 .taken) (w .1 .left) (w .2) (l .1)))
-      (λ w. (omega arith, skip-past _ _ _ _ _ (t .loop-test .taken) (sym (c .before .inside .ensures) ∙ w .0 .left) (w .1) (l .1)))
-      (c .if1 .came)
+    (λ w. (omega arith, skip-in _ _ _ _ _ (t .loop-test .taken) (sym (c .before .inside .ensures) ∙ w .0 .taken) (w .1 .left) (w .2) (l .1)))
+    (λ w. (omega arith, skip-past _ _ _ _ _ (t .loop-test .taken) (sym (c .before .inside .ensures) ∙ w .0 .left) (w .1) (l .1)))
+    (c .if1 .came)
 
 returns-2 : tie.Need-returns-2 Inv-loop μ-loop
 returns-2 c = absurd (skip-end _ _ _ _ (c .loop-test .left) (c .before .loop .inv .1))

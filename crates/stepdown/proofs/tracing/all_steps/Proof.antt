@@ -43,11 +43,14 @@ loop-less : tie.Need-loop-less Inv-loop μ-loop
 loop-less c = search needs
 
 loop-again : tie.Need-loop-again Inv-loop μ-loop
-loop-again c = 
+loop-again c =
     let a = c .before .before .before .before in
-    let l = a .before .before .before .before .loop .inv in
-    (follow-turn _ _ _ _ _ (l .0) (a .before .before .before .loop-test .taken) (a .before .before .if1 .left) _ (a .advance .ensures .0) _ _ (c .before .noted .ensures) refl,
-      omega (arith, a .advance .kept .1 .1 .0, l .1), omega (arith, a .advance .kept .1 .1 .0, l .2), kept-beyond _ _ _ (l .0) (a .advance .ensures .1) (l .3))
+    let l = a .before .before .before .before .loop .inv in (
+      follow-turn _ _ _ _ _ (l .0) (a .before .before .before .loop-test .taken) (a .before .before .if1 .left) _ (a .advance .ensures .0) _ _ (c .before .noted .ensures) refl,
+      omega (arith, a .advance .kept .1 .1 .0, l .1),
+      omega (arith, a .advance .kept .1 .1 .0, l .2),
+      kept-beyond _ _ _ (l .0) (a .advance .ensures .1) (l .3),
+    )
 
 same-length-2 : tie.Need-same-length-2 Inv-loop μ-loop
 same-length-2 c = search needs

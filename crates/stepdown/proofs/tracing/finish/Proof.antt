@@ -64,7 +64,7 @@ loop-less : tie.Need-loop-less Inv-loop μ-loop
 loop-less c = search needs
 
 loop-again : tie.Need-loop-again Inv-loop μ-loop
-loop-again c = 
+loop-again c =
     let t = c .before .before .before in
     let l = t .before .loop .inv in
     (omega (arith, t .loop-test .taken), l .1, l .2, l .3, partial-turn _ _ _ _ _ _ _ _ _ (omega (arith, t .loop-test .taken, l .1 .cols-most)) (l .4) (c .before .before .verdict .ensures) (c .at-least .ensures))
