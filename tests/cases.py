@@ -1,0 +1,42 @@
+"""Test cases, generated from a fixed seed: the same cases, in the same order, each time.
+
+Each family draws from a stream of its own, so that one can grow without moving
+the others. `all_cases()` yields every case; names are unique.
+"""
+
+import random
+
+from generators.files import file_cases
+from generators.kinds import BeginCase, FileCase, RecordCase, StepCase, TableCase
+from generators.records import record_cases
+from generators.runs import step_cases
+from generators.tables import begin_cases, table_cases
+
+__all__ = ["SEED", "FAMILIES", "cases_of", "all_cases",
+           "FileCase", "RecordCase", "TableCase", "BeginCase", "StepCase"]
+
+SEED = 20_260_101
+
+FAMILIES = {
+    "file": file_cases,
+    "record": record_cases,
+    "table": table_cases,
+    "begin": begin_cases,
+    "step": step_cases,
+}
+
+
+def cases_of(family: str):
+    """The cases of one family, in order."""
+    return FAMILIES[family](random.Random(f"{SEED}/{family}"))
+
+
+def all_cases():
+    """Every case, family by family."""
+    for family in FAMILIES:
+        yield from cases_of(family)
+
+
+if __name__ == "__main__":
+    for family in FAMILIES:
+        print(family, sum(1 for _ in cases_of(family)))

@@ -1,0 +1,51 @@
+"""What the reference answers to a case: the result, and each lent place afterwards."""
+
+from functools import singledispatch
+
+from generators.kinds import BeginCase, FileCase, RecordCase, StepCase, TableCase
+from reference import ccall, report, run, table, trial, trialfile
+
+MARK = 7  # what each place of a lent buffer holds before the call
+
+
+@singledispatch
+def expected(case) -> dict:
+    """The answers to a case, by the name of the call."""
+    raise TypeError(type(case))
+
+
+@expected.register
+def _(case: FileCase) -> dict:
+    buffer = bytearray([MARK]) * case.buffer_room
+    return {"read": trialfile.read(case.data),
+            "report": report.report(case.data),
+            "c_call": (ccall.trial_verdicts(case.data, buffer), bytes(buffer))}
+
+
+@expected.register
+def _(case: RecordCase) -> dict:
+    data = bytearray([MARK]) * case.file_room
+    cells = [float(MARK)] * case.table_room
+    run_cells, work = list(cells), [float(MARK)] * case.work_room
+    return {"write": (trialfile.write(case.trial, data), bytes(data)),
+            "table": (trial.table_of(case.trial, cells), cells),
+            "full_run": (trial.full_run(case.trial, run_cells, work), run_cells, work)}
+
+
+@expected.register
+def _(case: TableCase) -> dict:
+    work = [float(MARK)] * case.work_room
+    answer = table.full_run(case.values, case.rows, case.columns, case.k, case.a, case.b,
+                            case.observed, work)
+    return {"full_run": (answer, work)}
+
+
+@expected.register
+def _(case: BeginCase) -> dict:
+    return {"begin": run.begin(case.rows, case.columns, case.k, case.a, case.b, case.observed)}
+
+
+@expected.register
+def _(case: StepCase) -> dict:
+    work = [float(MARK)] * case.work_room
+    return {"step": (run.step(case.run, case.values, work), work)}

@@ -1,0 +1,104 @@
+"""Trial records: anything that the types hold. Refusals 4, 3, 5, 6, 7 and 12 in that order."""
+
+from dataclasses import replace
+from itertools import combinations
+
+from reference.trial import Trial, make_trial
+
+from .kinds import RecordCase
+from .trials import some_trial
+
+MOST = 2 ** 64 - 1
+BASE = make_trial((2, 8), 2, [("007", (4, 5)), ("42", (3, 1)), ("100", (-2, 6))])
+
+
+def record_cases(rng):
+    """All record cases."""
+    for number in range(300):
+        trial = with_rubbish(rng, some_trial(rng, 16, 7))
+        yield roomy(f"record-valid-{number}", trial)
+    yield from short_rooms(rng)
+    for name, change in defects().items():
+        trial = with_rubbish(rng, change(BASE))
+        yield roomy(f"record-{name}", trial)
+        yield RecordCase(f"record-{name}-no-room", trial, 0, 0, 0)
+    for (one, first), (two, second) in combinations(defects().items(), 2):
+        yield roomy(f"record-{one}-{two}", second(first(BASE)))
+    for number in range(100):
+        yield roomy(f"record-wild-{number}", wild(rng))
+
+
+def roomy(name, trial) -> RecordCase:
+    """Buffers long enough for every trial."""
+    return RecordCase(name, trial, 652, 512 * 16, 512)
+
+
+def with_rubbish(rng, trial) -> Trial:
+    """Refusable content in the places that the counts don't use: nothing looks at them."""
+    offers, used = min(trial.offers, 16), min(trial.offers * trial.pairs, 144)
+    return replace(
+        trial,
+        codes=trial.codes[:offers] + tuple(rng.getrandbits(32) for _ in range(16 - offers)),
+        digits=trial.digits[:offers] + tuple(rng.getrandbits(8) for _ in range(16 - offers)),
+        differences=trial.differences[:used]
+        + tuple(rng.randrange(-2 ** 31, 2 ** 31) for _ in range(144 - used)),
+    )
+
+
+def short_rooms(rng):
+    """Refusal 12 at each buffer, and buffers that just fit."""
+    for number in range(60):
+        trial = some_trial(rng, 16, 6)
+        rows, cells = 2 ** trial.pairs, 2 ** trial.pairs * trial.offers
+        words = 3 + trial.offers + trial.offers * trial.pairs
+        rooms = [(4 * words + d, cells + e, rows + f)
+                 for d, e, f in ((0, 0, 0), (-1, 0, 0), (0, -1, 0), (0, 0, -1), (1, 1, 1),
+                                 (-4 * words, -cells, -rows), (0, -cells, 0))]
+        for turn, room in enumerate(rooms):
+            yield RecordCase(f"record-room-{number}-{turn}", trial, *room)
+
+
+def changed(field, place, value):
+    """A defect: one place of a listed field is changed."""
+    def change(trial):
+        places = getattr(trial, field)
+        return replace(trial, **{field: places[:place] + (value,) + places[place + 1:]})
+    return change
+
+
+def figures(**values):
+    """A defect: counts, k or level are changed."""
+    return lambda trial: replace(trial, **values)
+
+
+def defects():
+    """Named defects of BASE; `first` and `last` are places among the used ones."""
+    listed = {f"4-{field}-{value}": figures(**{field: value})
+              for field, values in (("k", (0, 4, 5, MOST)), ("offers", (0, 1, 17, 258, MOST)),
+                                    ("pairs", (0, 10, 257, MOST))) for value in values}
+    listed |= {f"3-{a}-{b}": figures(a=a, b=b)
+               for a, b in ((0, 8), (2, 0), (8, 8), (9, 8), (1, 16_384), (MOST, MOST),
+                            (1, 2 ** 32 + 2), (2 ** 32, 2 ** 32 + 9), (MOST - 1, MOST))}
+    listed |= {f"5-digits-{d}": changed("digits", 0, d) for d in (0, 8, 255)}
+    listed |= {f"5-number-{n}": changed("codes", 0, n)
+               for n in (1000, 10_000_000, 2 ** 24, 2 ** 32 - 1)}
+    listed |= {"5-last": changed("digits", 2, 2), "5-second": changed("digits", 1, 1)}
+    listed |= {"6-second": changed("codes", 1, 7), "6-third": changed("codes", 2, 42)}
+    listed |= {f"7-first-{d}": changed("differences", 0, d)
+               for d in (134_217_728, -134_217_728, 2 ** 31 - 1, -2 ** 31)}
+    listed |= {"7-last": changed("differences", 5, 134_217_728),
+               "ok-lowest": changed("differences", 0, -134_217_727),
+               "ok-beyond": changed("differences", 6, -2 ** 31),
+               "ok-level": figures(a=16_382, b=16_383)}
+    return listed
+
+
+def wild(rng) -> Trial:
+    """Random figures, near the ranges or far off."""
+    def figure(near):
+        return rng.choice((rng.randint(0, near), rng.randint(1, near), rng.getrandbits(64)))
+    return Trial(figure(9), figure(20), rng.randint(0, 5), rng.randint(0, 18), rng.randint(0, 10),
+                 tuple(rng.randrange(40) for _ in range(16)),
+                 tuple(rng.choice((2, 3, 7, 7, 8)) if rng.random() < 0.2 else 2 for _ in range(16)),
+                 tuple(rng.choice((1, -1, 0, 5, 2 ** 27)) if rng.random() < 0.1 else 3
+                       for _ in range(144)))

@@ -1,0 +1,17 @@
+"""An independent reference of document 01, "Offer trials by exchange of paired shops".
+
+Written from the paper alone, for comparison with another implementation.
+
+refusals.py   the refusal numbers and the conditions that several calls share
+method.py     e, k-max, c(K), put-back sets, one step, the stopping rule, counts
+table.py      a lent table: its refusals and its full run
+run.py        a run taken step by step: begin, step, the clauses of refusal 14
+trial.py      the trial record: its refusals, its table, its full run
+trialfile.py  reader and writer of trial files
+report.py     the text of the report program
+ccall.py      the call for C
+
+A refusal is a result like any other: `Refused(number)` is returned, never raised.
+Lent buffers are mutable lists (f64) or bytearrays; a refused call leaves them
+alone. Where a buffer is given as None, the call behaves as with one long enough.
+"""

@@ -1,0 +1,32 @@
+"""The report program's text (document 01, "Report and C call")."""
+
+from .method import level_rows
+from .refusals import Refused
+from .table import FullRun, Rejected
+from .trial import Trial, full_run, rows_of
+from .trialfile import read
+
+
+def report(data: bytes) -> str:
+    """All that the program prints for a file on standard input."""
+    trial = read(data)
+    if isinstance(trial, Refused):
+        return f"refused {trial.number}\n"
+    return "".join(f"{line}\n" for line in report_lines(trial, full_run(trial)))
+
+
+def report_lines(trial: Trial, run: FullRun) -> list:
+    """The lines of an accepted trial's report."""
+    rows = rows_of(trial)
+    e = level_rows(rows, trial.a, trial.b)
+    lines = [f"trial {trial.pairs} {trial.offers} {trial.k} {e} {rows}"]
+    for record in run.records:
+        lines.append(f"step {record.step} {int(record.critical_value)}")
+    for i, verdict in enumerate(run.verdicts):
+        code = str(trial.codes[i]).zfill(trial.digits[i])
+        if isinstance(verdict, Rejected):
+            lines.append(f"{code} rejected {verdict.step} {run.counts[i]}")
+        else:
+            lines.append(f"{code} kept {run.records[-1].step} {run.counts[i]}")
+    lines.append(f"end {run.rejected()}")
+    return lines

@@ -1,0 +1,395 @@
+"""The reference against every example of document 01, and against what must hold always.
+
+Run from this directory's parent: python3 -m unittest discover -s tests
+"""
+
+import math
+import random
+import unittest
+from dataclasses import replace
+from itertools import combinations
+
+from reference import ccall, method, report, run, table, trial, trialfile
+from reference.method import Record
+from reference.refusals import Refused
+from reference.table import Kept, Rejected
+
+W_WORDS = [0x10004004, 0x20010203, 0x3400002A, 0x31000007, 0x40000005, 0x40000003,
+           0x40000004, 0x40000002, 0x4FFFFFFF, 0x40000001, 0xF000000A]
+W_FILE = trialfile.bytes_of(W_WORDS)
+W = trial.make_trial((1, 4), 1, [("0042", (5, 3, 4)), ("7", (2, -1, 1))])
+W_REPORT = """trial 3 2 1 2 8
+step 1 4
+step 2 2
+0042 rejected 1 1
+7 kept 2 3
+end 1
+"""
+P = [9, 8, 3, 4, 1, 2, 0, 4, 5, 1, 0, 1]
+NAN, INF = math.nan, math.inf
+
+
+def w_at(a, b, k=1):
+    """W at another level or with another k."""
+    return trial.full_run(replace(W, a=a, b=b, k=k))
+
+
+def critical_values(full):
+    return [record.critical_value for record in full.records]
+
+
+def steps_of(full):
+    """By offer, the rejecting step or 0."""
+    return [v.step if isinstance(v, Rejected) else 0 for v in full.verdicts]
+
+
+def is_plus_zero(value):
+    return value == 0.0 and math.copysign(1.0, value) == 1.0
+
+
+class StarredExamples(unittest.TestCase):
+    """Document 01, "Examples", those marked as proved."""
+
+    def test_w_as_printed(self):
+        self.assertEqual(report.report(W_FILE), W_REPORT)
+        self.assertEqual(trialfile.read(W_FILE), W)
+        self.assertEqual(trialfile.write(W), W_FILE)
+        full = trial.full_run(W)
+        self.assertEqual(full.verdicts, (Rejected(1, 4.0), Kept(2.0)))
+        self.assertEqual(full.counts, (1, 3))
+        self.assertEqual(full.records, (Record(1, 4.0), Record(2, 2.0)))
+
+    def test_w_at_one_eighth(self):
+        self.assertEqual(method.level_rows(8, 1, 8), 1)
+        self.assertEqual(critical_values(w_at(1, 8)), [6, 2])
+        self.assertEqual(steps_of(w_at(1, 8)), [1, 0])
+
+    def test_w_at_one_ninth(self):
+        self.assertEqual(method.level_rows(8, 1, 9), 0)
+        self.assertEqual(critical_values(w_at(1, 9)), [12])
+        self.assertEqual(steps_of(w_at(1, 9)), [0, 0])
+
+    def test_w_at_seven_eighths(self):
+        self.assertEqual(critical_values(w_at(7, 8)), [-4])
+        self.assertEqual(steps_of(w_at(7, 8)), [1, 1])
+
+    def test_w_with_k_2(self):
+        full = w_at(1, 4, k=2)
+        self.assertEqual(critical_values(full), [0])
+        self.assertTrue(is_plus_zero(full.records[0].critical_value))
+        self.assertEqual(steps_of(full), [1, 1])
+
+    def test_w_with_k_2_at_one_ninth(self):
+        full = w_at(1, 9, k=2)
+        self.assertEqual(critical_values(full), [4])
+        self.assertEqual(steps_of(full), [1, 0])
+        after, record = run.step(run.begin(8, 2, 2, 1, 9, 0), trial.table_of(W))
+        self.assertEqual((after.rejected, after.steps, after.ended), (1, 1, True))
+        self.assertEqual(record, Record(1, 4.0))
+
+    def test_rows_of_w_as_observed(self):
+        values = trial.table_of(W)
+        rejecting = [row for row in range(8)
+                     if table.full_run(values, 8, 2, 1, 1, 4, row).rejected() > 0]
+        self.assertEqual(rejecting, [0, 2])
+
+    def test_table_p(self):
+        values = [float(v) for v in P]
+        full = table.full_run(values, 4, 3, 2, 1, 4, 0)
+        self.assertEqual(critical_values(full), [4, 3])
+        self.assertEqual(full.verdicts, (Rejected(1, 4.0), Rejected(1, 4.0), Kept(3.0)))
+        columns = method.columns_of(values, 3)
+        self.assertEqual(method.put_back_sets({0, 1}, 2), [(0,), (1,)])
+        self.assertEqual(method.c(columns, [2, 0], 2, 1), 2)
+        self.assertEqual(method.c(columns, [2, 1], 2, 1), 3)
+
+    def test_one_row_one_column(self):
+        for value in (0.0, -3.5, 1e308):
+            full = table.full_run([value], 1, 1, 1, 1, 2, 0)
+            self.assertEqual((full.verdicts, full.counts), ((Kept(value),), (1,)))
+
+    def test_zero_and_minus_zero(self):
+        for values in ([0.0, -0.0], [-0.0, 0.0]):
+            full = table.full_run(values, 2, 1, 1, 1, 2, 0)
+            self.assertEqual((full.verdicts, full.counts), ((Kept(0.0),), (2,)))
+            self.assertTrue(is_plus_zero(full.records[0].critical_value))
+            self.assertTrue(is_plus_zero(full.verdicts[0].critical_value))
+
+
+class OtherExamples(unittest.TestCase):
+    """Document 01, "Examples", those not marked: the ends of the ranges."""
+
+    def shaped(self, offers, pairs):
+        """A file of that shape, with its words counted truly."""
+        words = [0x10004004, 2 << 28 | 1 << 16 | offers << 8 | pairs]
+        words += [3 << 28 | 2 << 24 | i for i in range(offers)]
+        words += [4 << 28 | i for i in range(offers * pairs)]
+        return trialfile.bytes_of(words + [15 << 28 | len(words)])
+
+    def test_pairs_9_and_10(self):
+        self.assertEqual(trialfile.read(self.shaped(1, 9)).pairs, 9)
+        self.assertEqual(trialfile.read(self.shaped(1, 10)), Refused(4))
+
+    def test_offers_16_and_17(self):
+        self.assertEqual(trialfile.read(self.shaped(16, 1)).offers, 16)
+        self.assertEqual(trialfile.read(self.shaped(17, 1)), Refused(4))
+
+    def test_longest_file(self):
+        longest = self.shaped(16, 9)
+        self.assertEqual(len(longest), 652)
+        self.assertTrue(report.report(longest).startswith("trial 9 16 1 128 512\n"))
+        self.assertEqual(trialfile.read(longest + bytes(4)), Refused(1))
+        self.assertEqual(trialfile.read(longest[:-4]), Refused(2))
+
+    def test_code_9999999(self):
+        good = trial.make_trial((1, 2), 1, [("9999999", (1,))])
+        self.assertEqual(trialfile.read(trialfile.write(good)), good)
+        self.assertEqual(report.report(trialfile.write(good)),
+                         "trial 1 1 1 1 2\nstep 1 -1\n9999999 rejected 1 1\nend 1\n")
+        beyond = replace(good, codes=(10_000_000,) + good.codes[1:])
+        self.assertEqual(trial.full_run(beyond), Refused(5))
+
+    def test_rows_4096_and_4097(self):
+        values = [float(g) for g in range(4096)]
+        full = table.full_run(values, 4096, 1, 1, 1, 4096, 4095)
+        self.assertEqual((full.verdicts, full.counts), ((Rejected(1, 4094.0),), (1,)))
+        self.assertEqual(table.full_run(values + [0.0], 4097, 1, 1, 1, 4096, 0), Refused(4))
+
+
+class Refusals(unittest.TestCase):
+    """Document 01, "Turned away because of ...": each number, and their order."""
+
+    def read_words(self, **places):
+        words = list(W_WORDS)
+        for place, word in places.items():
+            words[int(place[1:])] = word
+        answer = trialfile.read(trialfile.bytes_of(words))
+        return answer.number if isinstance(answer, Refused) else 0
+
+    def test_file(self):
+        for data in (b"", W_FILE[:-1], W_FILE + b"\0", bytes(656)):
+            self.assertEqual(trialfile.read(data), Refused(1))
+        self.assertEqual(self.read_words(w0=0x00004004), 2)
+        self.assertEqual(self.read_words(w0=0x10000004), 3)
+        self.assertEqual(self.read_words(w0=0x10004001), 3)
+        self.assertEqual(self.read_words(w1=0x21010203), 4)
+        self.assertEqual(self.read_words(w1=0x20030203), 4)
+        self.assertEqual(self.read_words(w2=0x3100002A), 5)
+        self.assertEqual(self.read_words(w3=0x3200002A), 6)
+        self.assertEqual(self.read_words(w3=0x3100002A), 5)
+        self.assertEqual(self.read_words(w4=0x48000000), 7)
+        self.assertEqual(self.read_words(w4=0x48000001), 0)
+        self.assertEqual(self.read_words(w10=0xF000000B), 8)
+        self.assertEqual(self.read_words(w10=0x40000001), 2)
+        self.assertEqual(trialfile.read(W_FILE + W_FILE[-4:]), Refused(8))
+        self.assertEqual(self.read_words(w0=0x10000000, w1=0x20000000), 3)
+
+    def test_record(self):
+        bad_level = replace(W, a=4)
+        self.assertEqual(trial.full_run(bad_level), Refused(3))
+        self.assertEqual(trial.full_run(replace(bad_level, pairs=10)), Refused(4))
+        self.assertEqual(trial.full_run(replace(W, offers=2 ** 64 - 1)), Refused(4))
+        twice = replace(W, codes=(42, 42) + W.codes[2:], digits=(4, 2) + W.digits[2:])
+        self.assertEqual(trial.full_run(twice), Refused(6))
+        self.assertEqual(trial.full_run(replace(twice, digits=(4, 1) + W.digits[2:])), Refused(5))
+        wide = replace(W, differences=(-134_217_728,) + W.differences[1:])
+        self.assertEqual(trialfile.write(wide), Refused(7))
+
+    def test_table(self):
+        good = dict(values=[1.0, 2.0], rows=2, columns=1, k=1, a=1, b=2, observed=0, work=[9.0] * 2)
+        self.assertEqual(steps_of(table.full_run(**good)), [0])
+        faults = [(4, dict(k=2)), (3, dict(b=1)), (9, dict(values=[NAN, 1.0, 2.0])),
+                  (10, dict(observed=2)), (11, dict(values=[1.0, -INF])), (12, dict(work=[9.0]))]
+        for at, (number, fault) in enumerate(faults):
+            self.assertEqual(table.full_run(**{**good, **fault}), Refused(number))
+            for _, later in faults[at + 1:]:
+                self.assertEqual(table.full_run(**{**good, **later, **fault}), Refused(number))
+
+    def test_step(self):
+        values, begun = [3.0, 1.0], run.begin(2, 1, 1, 1, 2, 0)
+        ended = run.step(begun, values)[0]
+        self.assertTrue(ended.ended)
+        self.assertEqual(run.step(ended, []), Refused(13))
+        self.assertEqual(run.step(replace(ended, rejected=2), []), Refused(14))
+        self.assertEqual(run.step(begun, [NAN], []), Refused(9))
+        self.assertEqual(run.step(begun, [NAN, 0.0], []), Refused(11))
+        self.assertEqual(run.step(begun, values, [7.0]), Refused(12))
+
+    def test_clauses_of_14(self):
+        legal = run.Run(4, 5, 2, 1, 4, 0, 0b00111, 2, False)
+        self.assertEqual(run.clauses_broken(legal), [])
+        spoiled = [dict(a=0), dict(rows=4097), dict(observed=4), dict(rejected=0b100111),
+                   dict(steps=33, ended=True), dict(steps=0), dict(steps=0, rejected=0, ended=True),
+                   dict(steps=4), dict(rejected=0b1, steps=1), dict(rejected=0b11111)]
+        for (name, _), change in zip(run.CLAUSES_OF_14, spoiled, strict=True):
+            self.assertEqual(run.clauses_broken(replace(legal, **change)), [name])
+        odd = replace(legal, ended=True, rejected=0, steps=32)
+        self.assertEqual(run.step(odd, []), Refused(13))
+
+    def test_lent_buffers(self):
+        work, buffer = [7.0] * 10, [7.0] * 20
+        trial.full_run(W, buffer, work)
+        self.assertEqual(work, [0.0] * 8 + [7.0] * 2)
+        self.assertEqual(buffer, trial.table_of(W) + [7.0] * 4)
+        short = [7.0] * 15
+        self.assertEqual(trial.full_run(W, short, work), Refused(12))
+        self.assertEqual(trial.table_of(W, short), Refused(12))
+        self.assertEqual(short, [7.0] * 15)
+        data = bytearray(b"\7" * 50)
+        trialfile.write(W, data)
+        self.assertEqual(bytes(data), W_FILE + b"\7" * 6)
+        self.assertEqual(trialfile.write(W, data[:43]), Refused(12))
+
+    def test_c_call(self):
+        buffer = bytearray(b"\7" * 3)
+        self.assertEqual(ccall.trial_verdicts(W_FILE, buffer), 1)
+        self.assertEqual(buffer, b"\1\0\7")
+        short = bytearray(b"\7")
+        self.assertEqual(ccall.trial_verdicts(W_FILE, short), 112)
+        self.assertEqual(ccall.trial_verdicts(W_FILE + bytes(4), short), 108)
+        self.assertEqual(short, b"\7")
+
+
+def random_trial(rng, most_pairs=9, most_offers=16, spread=134_217_727):
+    """A random accepted trial."""
+    pairs, offers = rng.randint(1, most_pairs), rng.randint(1, most_offers)
+    b = rng.randint(2, 16_383)
+    codes = rng.sample(range(10 ** rng.randint(2, 7)), offers)
+    listed = [(str(code).zfill(rng.randint(len(str(code)), 7)),
+               [rng.randint(-spread, spread) for _ in range(pairs)]) for code in codes]
+    return trial.make_trial((rng.randint(1, b - 1), b), rng.randint(1, min(4, offers)), listed)
+
+
+def random_table(rng, most_rows=8, most_columns=4):
+    """The arguments of a full run over a small random table with many ties."""
+    rows, columns = rng.randint(1, most_rows), rng.randint(1, most_columns)
+    values = [rng.choice((-2.0, -1.0, -0.0, 0.0, 1.0, 1.0, 5.5)) for _ in range(rows * columns)]
+    b = rng.randint(2, 20)
+    return dict(values=values, rows=rows, columns=columns, k=rng.randint(1, min(4, columns)),
+                a=rng.randint(1, b - 1), b=b, observed=rng.randrange(rows))
+
+
+def subsets(size):
+    """All sets of the numbers below size."""
+    return [set(chosen) for n in range(size + 1) for chosen in combinations(range(size), n)]
+
+
+def idle_rejected(full, idle):
+    return sum(1 for j in idle if isinstance(full.verdicts[j], Rejected))
+
+
+class Properties(unittest.TestCase):
+    """What holds for every trial and table, on random ones."""
+
+    def test_file_round_trip(self):
+        rng = random.Random("round trip")
+        for _ in range(400):
+            one = random_trial(rng)
+            data = trialfile.write(one)
+            self.assertEqual(trialfile.read(data), one)
+            rubbish = replace(one, codes=one.codes[:one.offers] + (99,) * (16 - one.offers))
+            self.assertTrue(trial.same(one, rubbish))
+            self.assertEqual(trialfile.write(rubbish), data)
+
+    def test_damaged_file_round_trip(self):
+        """What is read from any bytes is written back as those bytes."""
+        rng, accepted = random.Random("damage"), 0
+        for _ in range(2000):
+            data = bytearray(trialfile.write(random_trial(rng, 3, 3, 9)))
+            data[rng.randrange(len(data))] ^= 1 << rng.randrange(8)
+            answer = trialfile.read(bytes(data))
+            if not isinstance(answer, Refused):
+                accepted += 1
+                self.assertEqual(trialfile.write(answer), bytes(data))
+        self.assertGreater(accepted, 200)
+
+    def test_steps_equal_full_run(self):
+        rng = random.Random("steps")
+        for _ in range(600):
+            given = random_table(rng, 12, 7)
+            values = given["values"]
+            full = table.full_run(**given)
+            now = run.begin(**{name: given[name] for name in given if name != "values"})
+            rejecting, records = [0] * now.columns, []
+            while not now.ended:
+                before = now.rejected
+                now, record = run.step(now, values)
+                records.append(record)
+                for j in range(now.columns):
+                    if (now.rejected & ~before) >> j & 1:
+                        rejecting[j] = now.steps
+            self.assertEqual(tuple(records), full.records)
+            self.assertEqual(rejecting, steps_of(full))
+
+    def test_selection_by_rank(self):
+        """c(K) by ranks alone: fewer than m below it and at least m at most it."""
+        rng = random.Random("rank")
+        for _ in range(300):
+            given = random_table(rng)
+            columns = method.columns_of(given["values"], given["columns"])
+            m = given["rows"] - method.level_rows(given["rows"], given["a"], given["b"])
+            k_maxes = []
+            for row in zip(*columns):
+                k_maxes += [next(v for v in row if sum(w > v for w in row) < given["k"]
+                                 <= sum(w >= v for w in row))]
+            expected = next(v for v in k_maxes if sum(w < v for w in k_maxes) < m
+                            <= sum(w <= v for w in k_maxes))
+            found = method.c(columns, range(given["columns"]), given["k"], given["rows"] - m)
+            self.assertEqual(found, expected)
+            self.assertTrue(found != 0.0 or is_plus_zero(found))
+
+    def test_demand_3_tables(self):
+        """At most e of the M runs reject k or more idle columns."""
+        rng = random.Random("demand 3, tables")
+        for _ in range(60):
+            given = random_table(rng, 6)
+            rows, columns = given["rows"], given["columns"]
+            e = method.level_rows(rows, given["a"], given["b"])
+            for idle in subsets(columns):
+                bad = 0
+                for g in range(rows):
+                    values = [v if i % columns in idle else rng.choice((-9.0, 0.0, 1.0, 1e9))
+                              for i, v in enumerate(given["values"])]
+                    full = table.full_run(**{**given, "values": values, "observed": g})
+                    bad += idle_rejected(full, idle) >= given["k"]
+                self.assertLessEqual(bad, e)
+
+    def test_demand_3_trials(self):
+        """At most e of the 2^n runs reject k or more idle offers."""
+        rng = random.Random("demand 3, trials")
+        for _ in range(60):
+            one = random_trial(rng, 3, 4, 4)
+            e = method.level_rows(2 ** one.pairs, one.a, one.b)
+            for idle in subsets(one.offers):
+                runs = [trial.full_run(self.run_g(rng, one, idle, g))
+                        for g in range(2 ** one.pairs)]
+                bad = sum(idle_rejected(full, idle) >= one.k for full in runs)
+                self.assertLessEqual(bad, e)
+
+    def run_g(self, rng, one, idle, g):
+        """Run g's own trial: idle differences exchanged by g, all others new."""
+        differences = list(one.differences)
+        for i in range(one.offers):
+            for j in range(one.pairs):
+                at = i * one.pairs + j
+                if i not in idle:
+                    differences[at] = rng.choice((-3, 0, 1, 2, 134_217_727))
+                elif g >> j & 1:
+                    differences[at] = -differences[at]
+        return replace(one, differences=tuple(differences))
+
+    def test_report_and_c_call_agree(self):
+        rng = random.Random("report")
+        for _ in range(150):
+            one = random_trial(rng, 6, 8, 5)
+            data, buffer = trialfile.write(one), bytearray(b"\xff" * 20)
+            answer = ccall.trial_verdicts(data, buffer)
+            text = report.report(data)
+            self.assertTrue(text.endswith(f"\nend {answer}\n"))
+            self.assertEqual(answer, sum(1 for step in buffer[:one.offers] if step))
+            self.assertEqual(buffer[one.offers:], b"\xff" * (20 - one.offers))
+            self.assertNotIn("-0", [line.split()[-1] for line in text.splitlines()])
+
+
+if __name__ == "__main__":
+    unittest.main()
