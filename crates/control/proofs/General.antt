@@ -28,7 +28,8 @@ use Rattle.stepdown.proofs.Begun.{begun-empty}
 use Rattle.stepdown.proofs.Tabulate.{tabulate-length, tabulate-getD}
 use Rattle.stepdown.proofs.Critical.{Sound, soundRow, sound-length, kMax-law, criticalValue-law}
 use Rattle.stepdown.proofs.Steps.{Fitting, seenRow, rejected-length}
-use Rattle.control.specs.Statements.{isRejected, rejectedAmong, runsThatReject}
+use Rattle.verdicts.specs.Verdicts.{isRejected}
+use Rattle.control.specs.Statements.{rejectedAmong, runsThatReject}
 use Rattle.control.proofs.OneRun.{aboveKey, aboveKey-length, rejected-above, Held}
 
 -- ---- one run, counted

@@ -26,7 +26,7 @@ use Rattle.stepdown.proofs.Sets.{has, has-length, _⊆_, ⊆-by, ⊆-at, ⊆-le
 use Rattle.stepdown.proofs.Masks.{has-columnsOf}
 use Rattle.stepdown.proofs.Critical.{Sound, criticalValue-mono, putBack-reaches}
 use Rattle.stepdown.proofs.Steps.{Fitting, GoingOn, eOf, seenRow, leftOver, over-length, at-column, bar-first, bar-later, seen-length, seen-finite, rejected-length, left-length, newly-length, newly-is, after-rejected, after-fitting, bar-finite, going-on, EachStep, along}
-use Rattle.control.specs.Statements.{isRejected}
+use Rattle.verdicts.specs.Verdicts.{isRejected}
 
 -- ---- columns above a bound
 

@@ -1,5 +1,4 @@
 -- What demand 3 speaks of. Definitions only.
---   isRejected v               the verdict is rejected
 --   rejectedAmong idle vs      how many of the columns that are called idle have the verdict rejected
 --   runsThatReject k n idle vs    of the n runs with the verdicts vs 0 to vs (n - 1), how many reject k or more idle columns
 --   entry t columns h j        the value of a table t in row h and column j
@@ -9,7 +8,7 @@
 --   ExchangedOn idle g t u     u's idle differences are those of t, that of pair j (from 0) with its sign changed where bit j of g is 1
 use Prim.Native.Nat.{ℕ, _+_, _*_, _<_}
 use mathlib.Core.Path.{_≡_}
-use mathlib.Core.Bool.{Bool, true, false, _&&_}
+use mathlib.Core.Bool.{Bool, _&&_}
 use mathlib.Core.List.{List}
 use lib.ListN.{length, getD}
 use lib.Dec.{leb, T}
@@ -19,13 +18,10 @@ use Rattle.order.specs.Order.{plusZero}
 use Rattle.order.specs.Counting.{countBelow}
 use Rattle.stepdown.specs.Columns.{inSet}
 use Rattle.stepdown.specs.declared.Verdict.{Verdict}
-use Rattle.stepdown.specs.declared.Verdict.the-variants.{Rejected, Kept}
+use Rattle.stepdown.specs.declared.Verdict.the-variants.{Kept}
+use Rattle.verdicts.specs.Verdicts.{isRejected}
 use Rattle.trial.specs.Exchange.{exchanged}
 use Rattle.trial.specs.declared.Trial.{Trial}
-
-abbrev pub isRejected : Verdict → Bool
-isRejected (Rejected s c) = true
-isRejected (Kept c) = false
 
 unfoldable pub rejectedAmong : (ℕ → Bool) → List Verdict → ℕ
 unfolding countBelow

@@ -1,0 +1,30 @@
+-- Laws of the count of rejected verdicts.
+--   count-most              it is no more than the verdicts that are looked at
+--   count-on                one verdict more
+--   count-end               past the last verdict nothing is counted
+use Prim.Native.Nat.{ℕ, _+_, _≤_, _<_}
+use native.Mathlib.Omega.{arith}
+use native.Mathlib.Numerals.{add-one}
+use mathlib.Core.Path.{_≡_, refl, sym, ap, _∙_}
+use mathlib.Core.Bool.{Bool}
+use mathlib.Core.List.{List, [], _∷_, _++_}
+use lib.ListN.{length, getD, take, length-take}
+use lib.Seq.{take-suc, take-all}
+use Rattle.order.specs.Counting.{bit, count}
+use Rattle.order.proofs.Counts.{count-append, count-length}
+use Rattle.stepdown.specs.declared.Judged.{Judged}
+use Rattle.verdicts.specs.Verdicts.{isRejected, rejectedCount}
+
+pub count-most : (n : ℕ) (js : List Judged) → rejectedCount n js ≤ length js
+unfolding rejectedCount
+count-most n js = omega (arith, count-length (λ (j : Judged). isRejected (j .verdict)) (take n js), length-take n js)
+
+pub count-on : (i : ℕ) (js : List Judged) (d : Judged) (total : ℕ) → i < length js → total ≡ rejectedCount i js → total + bit (isRejected (getD js i d .verdict)) ≡ rejectedCount (i + 1) js
+unfolding rejectedCount count
+count-on i js d total h e =
+    let p : Judged → Bool = λ j. isRejected (j .verdict) in
+    sym (ap (λ (n : ℕ). count p (take n js)) (add-one i) ∙ ap (count p) (take-suc js i d h) ∙ count-append p (take i js) (getD js i d ∷ []) ∙ omega (arith, e))
+
+pub count-end : (i n : ℕ) (js : List Judged) → length js ≤ i → i ≤ n → rejectedCount i js ≡ rejectedCount n js
+unfolding rejectedCount
+count-end i n js h k = ap (count (λ (j : Judged). isRejected (j .verdict))) (take-all i js h ∙ sym (take-all n js (omega arith)))

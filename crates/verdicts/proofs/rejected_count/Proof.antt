@@ -1,0 +1,67 @@
+-- `rejected_count`. The invariant: the rejected verdicts of the first i are counted.
+use Rattle.verdicts.specs.Verdicts.{rejectedCount}
+use Rattle.verdicts.proofs.Counted.{count-most, count-on, count-end}
+use lib.ListN.{length}
+use Prim.Native.Nat.{_+_, _≤_, _-_}
+use native.Mathlib.Omega.{arith}
+use mathlib.Core.Path.{_≡_, refl, sym, ap, _∙_}
+use borrow.Author.Needs.{needs}
+use Rattle.verdicts.proofs.rejected_count.Statement.{statement}
+use Rattle.verdicts.proofs.rejected_count.Tie as tie
+use Rattle.verdicts.proofs.rejected_count.Reads as reads
+use Rattle.verdicts.proofs.rejected_count.Lts as lts
+use Rattle.verdicts.proofs.tally.Reads as tally-reads
+
+abbrev Inv-loop : tie.InvT-loop
+Inv-loop n judged total₀ i₀ total i = (i ≤ n) × (i ≤ 32) × (length judged ≡ 32) × (total ≡ rejectedCount i judged)
+
+abbrev μ-loop : tie.MeasureT-loop
+μ-loop n judged total₀ i₀ total i = n - i
+
+loop-holds : tie.Need-loop-holds Inv-loop μ-loop
+unfolding rejectedCount
+loop-holds c = (omega arith, omega arith, search needs, refl)
+
+returns : tie.Need-returns Inv-loop μ-loop
+returns c = let l = c .before .before .loop .inv in l .3 ∙ count-end _ _ _ (omega (arith, l .2, c .if1 .taken)) (l .0)
+
+mul-j : tie.Need-mul-j Inv-loop μ-loop
+mul-j c = search needs
+
+array-copy-out-j : tie.Need-array-copy-out-j Inv-loop μ-loop
+array-copy-out-j c = search needs
+
+tally-requires : tie.Need-tally-requires Inv-loop μ-loop
+tally-requires c κs = search needs
+
+add-total : tie.Need-add-total Inv-loop μ-loop
+add-total c = let l = c .before .before .before .before .loop .inv in record { fits = omega (arith, l .2, l .3, count-most (c .before .before .before .before .loop .i) (c .before .before .before .before .before .args .t1), c .tally .ensures .1) }
+
+add-i : tie.Need-add-i Inv-loop μ-loop
+add-i c = search needs
+
+loop-less : tie.Need-loop-less Inv-loop μ-loop
+loop-less c = search needs
+
+loop-again : tie.Need-loop-again Inv-loop μ-loop
+loop-again c = let t = c .before .before .before in let l = t .before .loop .inv in (omega (arith, t .loop-test .taken), omega (arith, l .1, c .before .before .if1 .left), l .2, ap (λ n. t .before .loop .total + n) (c .tally .ensures .0) ∙ count-on _ _ _ _ (omega arith) (l .3))
+
+returns-2 : tie.Need-returns-2 Inv-loop μ-loop
+returns-2 c = let l = c .before .loop .inv in l .3 ∙ ap (λ i. rejectedCount i (c .before .before .args .t1)) (omega (arith, l .0, c .loop-test .left))
+
+pub rejected-count-spec : {M : Type 1} → statement M
+rejected-count-spec =
+    tie.close
+    (tie.spec
+    Inv-loop
+    μ-loop
+    loop-holds
+    returns
+    mul-j
+    array-copy-out-j
+    tally-requires
+    add-total
+    add-i
+    loop-less
+    loop-again
+    returns-2)

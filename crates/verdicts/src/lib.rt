@@ -1,0 +1,45 @@
+// What is read off the verdicts of a full run: which step rejected, and how many are rejected. The report and the C calls tell these.
+use stepdown::Judged;
+use stepdown::Verdict;
+ghost use mathlib.Core.Path.{_≡_};
+ghost use Prim.Native.Nat.{_≤_};
+ghost use Rattle.verdicts.specs.Verdicts.{isRejected, rejectingStep, rejectedCount};
+ghost use Rattle.order.specs.Counting.{bit};
+
+// The step that rejected, and 0 where the verdict is kept.
+pub fn rejecting_step(v: Verdict) -> usize
+    ensures { λ r. ⌜ r ≡ rejectingStep v ⌝ }
+{
+    match v {
+        Verdict::Rejected(step, _) => step,
+        Verdict::Kept(_) => 0,
+    }
+}
+
+// 1 where the verdict is rejected, and else 0.
+fn tally(v: Verdict) -> usize
+    ensures { λ r. ⌜ (r ≡ bit (isRejected v)) × (r ≤ 1) ⌝ }
+{
+    match v {
+        Verdict::Rejected(_, _) => 1,
+        Verdict::Kept(_) => 0,
+    }
+}
+
+// How many of the first n verdicts are rejected; of all 32 where n is more.
+pub fn rejected_count(judged: [Judged; 32], n: usize) -> usize
+    ensures { λ r. ⌜ r ≡ rejectedCount n judged ⌝ }
+{
+    let mut total: usize = 0;
+    let mut i: usize = 0;
+    while i < n {
+        if i == 32 {
+            return total;
+        }
+        let j = judged[i];
+        let v = j.verdict;
+        total += tally(v);
+        i += 1;
+    }
+    total
+}
