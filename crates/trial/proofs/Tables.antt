@@ -9,7 +9,7 @@ use mathlib.Core.List.{List, [], _∷_, _++_, map}
 use lib.ListN.{length, getD, take, drop, length-map, length-append, length-take, drop-of-length-le}
 use lib.Seq.{take-at, drop-at, take-take, take-add, take-nil, length-take-le}
 use lib.Dec.{T, eqb, leb, eqb-refl, eqb→eq, leb→le, le→leb}
-use lib.IntN.{ℤ, pos}
+use lib.IntN.{ℤ, pos, natAbs}
 use lib.Pow.{pow-pos}
 use lib.Ieee.{Float, nan, binary64, ofInt}
 use Rattle.order.specs.Order.{finite}
@@ -76,18 +76,23 @@ pub rowOf-length : (t : Trial) (g : ℕ) → length (rowOf t g) ≡ t .offers
 unfolding rowOf byOffer
 rowOf-length t g = length-map (byOffer t) (λ ds. ofInt binary64 (signedSum g ds)) ∙ rowsOf-length (t .offers) (t .pairs) (t .differences)
 
-sum-finite : (n g : ℕ) (ds : List ℤ) → n ≤ 9 → T (okOffer n ds) → T (finite (ofInt binary64 (signedSum g ds)))
+sum-small : (n g : ℕ) (ds : List ℤ) → n ≤ 9 → T (okOffer n ds) → natAbs (signedSum g ds) ≤ 2 ^ 53
 unfolding okOffer
-sum-finite n g ds h t =
-    whole-finite (signedSum g ds) (omega (arith, signedSum-small g ds (and-right (leb (length ds) n) (all (λ d. not (badDifference d)) ds) t), leb→le (length ds) n (and-left (leb (length ds) n) (all (λ d. not (badDifference d)) ds) t)))
+sum-small n g ds h t =
+    omega (arith, signedSum-small g ds (and-right (leb (length ds) n) (all (λ d. not (badDifference d)) ds) t), leb→le (length ds) n (and-left (leb (length ds) n) (all (λ d. not (badDifference d)) ds) t))
+
+-- what holds of every whole number up to 2^53 as an f64 holds of a row's values
+pub rowOf-all : (p : Float → Bool) → ((z : ℤ) → natAbs z ≤ 2 ^ 53 → T (p (ofInt binary64 z))) → (t : Trial) (g : ℕ) → Accepted t → T (all p (rowOf t g))
+unfolding rowOf byOffer
+rowOf-all p h t g acc =
+    rw (all-map (λ ds. ofInt binary64 (signedSum g ds)) p (byOffer t))
+    (all-le (okOffer (t .pairs)) (λ ds. p (ofInt binary64 (signedSum g ds))) (byOffer t) (λ ds u. h (signedSum g ds) (sum-small (t .pairs) g ds (acc .pairs-most) u)) (offers-ok (t .offers) (t .pairs) (t .differences) (acc .in-range)))
 
 pub rowOf-sound : (t : Trial) (g : ℕ) → Accepted t → T (soundRow (t .offers) (rowOf t g))
-unfolding rowOf byOffer
 rowOf-sound t g acc =
     and-both (eqb (length (rowOf t g)) (t .offers)) (all finite (rowOf t g))
     (subst (λ (n : ℕ). T (eqb n (t .offers))) (sym (rowOf-length t g)) (eqb-refl (t .offers)))
-    (rw (all-map (λ ds. ofInt binary64 (signedSum g ds)) finite (byOffer t))
-    (all-le (okOffer (t .pairs)) (λ ds. finite (ofInt binary64 (signedSum g ds))) (byOffer t) (λ ds u. sum-finite (t .pairs) g ds (acc .pairs-most) u) (offers-ok (t .offers) (t .pairs) (t .differences) (acc .in-range))))
+    (rowOf-all finite whole-finite t g acc)
 
 pub trialRows-length : (t : Trial) → length (trialRows t) ≡ rowTotal t
 unfolding trialRows

@@ -1,0 +1,77 @@
+-- `compose`: the refusal's line, or head, steps, offers and end, one after the other.
+use Rattle.rendering.proofs.Writing.{then, wrote-as}
+use Rattle.rendering.proofs.Rendered.{text-refused, text-report}
+use native.Mathlib.Omega.{arith}
+use borrow.Author.Needs.{needs}
+use Rattle.rendering.proofs.compose.Statement.{statement}
+use Rattle.rendering.proofs.compose.Tie as tie
+use Rattle.rendering.proofs.compose.Reads as reads
+use Rattle.rendering.proofs.compose.Lts as lts
+use Rattle.rendering.proofs.lines.head.Reads as head-reads
+use Rattle.rendering.proofs.lines.numbered.Reads as numbered-reads
+use Rattle.rendering.proofs.lines.offers.Reads as offers-reads
+use Rattle.rendering.proofs.lines.steps.Reads as steps-reads
+use Rattle.verdicts.proofs.rejected_count.Reads as rejected-count-reads
+
+slice-aggregate-numbered : tie.Need-slice-aggregate-numbered
+slice-aggregate-numbered c = search needs
+
+cast-numbered : tie.Need-cast-numbered
+cast-numbered c = search needs
+
+numbered-requires : tie.Need-numbered-requires
+numbered-requires c κs = search needs
+
+same-length : tie.Need-same-length
+same-length c = search needs
+
+returns : tie.Need-returns
+returns c = let n = c .before .before .numbered .ensures in (wrote-as _ (text-refused (c .before .before .before .before .before .before .before .before .args .f) (c .before .before .before .before .before .if1 .taken)) (n .0), omega (arith, n .1))
+
+head-requires : tie.Need-head-requires
+head-requires c κs = let s = c .before .before .before .before .before in let p = s .pre .1 (c .before .before .if1 .left) in (omega (arith, s .pre .0), p .pairs-most, p .a-most, p .b-some)
+
+steps-requires : tie.Need-steps-requires
+steps-requires c κs = let h = c .before .before .before .head in let s = c .before .before .before .before .before .before .before .before .before in let p = s .pre .1 (c .before .before .before .before .before .before .if1 .left) in (h .ensures .1, omega (arith, h .kept .0, s .pre .0), p .run-printable)
+
+offers-requires : tie.Need-offers-requires
+offers-requires c κs = let q = c .before .before .before .steps in let h = c .before .before .before .before .before .before .before .head in let s = c .before .before .before .before .before .before .before .before .before .before .before .before .before in let p = s .pre .1 (c .before .before .before .before .before .before .before .before .before .before .if1 .left) in (omega (arith, q .ensures .1, h .ensures .1), omega (arith, q .kept .0, h .kept .0, s .pre .0), p .offers-most, p .digits-few)
+
+rejected-count-requires : tie.Need-rejected-count-requires
+rejected-count-requires c κs = search needs
+
+slice-aggregate-numbered-2 : tie.Need-slice-aggregate-numbered-2
+slice-aggregate-numbered-2 c = search needs
+
+numbered-requires-2 : tie.Need-numbered-requires-2
+numbered-requires-2 c κs = search needs
+
+same-length-2 : tie.Need-same-length-2
+same-length-2 c = search needs
+
+returns-2 : tie.Need-returns-2
+returns-2 c =
+    let n = c .before .before .numbered2 .ensures in
+    let r = c .before .before .before .before .before .rejected-count .ensures in
+    let o = c .before .before .before .before .before .before .before .before .before .offers .ensures in
+    let q = c .before .before .before .before .before .before .before .before .before .before .before .before .before .steps .ensures in
+    let h = c .before .before .before .before .before .before .before .before .before .before .before .before .before .before .before .before .before .head .ensures in
+    (wrote-as _ (text-report (c .before .before .before .before .before .before .before .before .before .before .before .before .before .before .before .before .before .before .before .before .before .before .before .args .f) _ (c .before .before .before .before .before .before .before .before .before .before .before .before .before .before .before .before .before .before .before .before .if1 .left) r) (then (h .0) (then (q .0) (then (o .0) (n .0)))), omega (arith, n .1, o .1, q .1, h .1))
+
+pub compose-spec : {M : Type 1} → statement M
+compose-spec =
+    tie.close
+    (tie.spec
+    slice-aggregate-numbered
+    cast-numbered
+    numbered-requires
+    same-length
+    returns
+    head-requires
+    steps-requires
+    offers-requires
+    rejected-count-requires
+    slice-aggregate-numbered-2
+    numbered-requires-2
+    same-length-2
+    returns-2)

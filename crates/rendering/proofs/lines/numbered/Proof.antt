@@ -1,0 +1,34 @@
+use Rattle.rendering.proofs.Writing.{then, wrote-as}
+use mathlib.Core.Path.{_≡_, refl, sym, ap, _∙_}
+use native.Mathlib.Omega.{arith}
+use borrow.Author.Needs.{needs}
+use Rattle.rendering.proofs.lines.numbered.Statement.{statement}
+use Rattle.rendering.proofs.lines.numbered.Tie as tie
+use Rattle.rendering.proofs.lines.numbered.Reads as reads
+use Rattle.rendering.proofs.lines.numbered.Lts as lts
+use Rattle.rendering.proofs.text.put.Reads as put-reads
+use Rattle.rendering.proofs.text.put_all.Reads as put-all-reads
+use Rattle.rendering.proofs.text.put_field.Reads as put-field-reads
+
+put-all-requires : tie.Need-put-all-requires
+put-all-requires c κs = search needs
+
+put-field-requires : tie.Need-put-field-requires
+put-field-requires c κs = search needs
+
+put-requires : tie.Need-put-requires
+put-requires c κs = search needs
+
+same-length : tie.Need-same-length
+same-length c = search needs
+
+returns : tie.Need-returns
+returns c =
+    let w = c .before .before .before .before .before .before .before .before .before .before .put-all .ensures in
+    let f = c .before .before .before .before .before .before .put-field .ensures in
+    let e = c .before .before .put .ensures in
+    (then w (then (f .0) e), omega (arith, w .ends, f .1, e .ends))
+
+pub numbered-spec : {M : Type 1} → statement M
+numbered-spec =
+    tie.close (tie.spec put-all-requires put-field-requires put-requires same-length returns)

@@ -1,0 +1,19 @@
+use Rattle.trial.proofs.Places.{rows-shift}
+use lib.Pow.{pow-mono}
+use Rattle.rendering.proofs.Writing.{then, wrote-as}
+use mathlib.Core.Path.{_≡_, refl, sym, ap, _∙_}
+use native.Mathlib.Omega.{arith}
+use borrow.Author.Needs.{needs}
+use Rattle.rendering.proofs.lines.rows.Statement.{statement}
+use Rattle.rendering.proofs.lines.rows.Tie as tie
+use Rattle.rendering.proofs.lines.rows.Reads as reads
+use Rattle.rendering.proofs.lines.rows.Lts as lts
+
+shl-result : tie.Need-shl-result
+shl-result c = search needs
+
+returns : tie.Need-returns
+returns c = let e = rows-shift _ (c .pre) in (e, omega (arith, e, pow-mono (c .pre)))
+
+pub rows-spec : {M : Type 1} → statement M
+rows-spec = tie.close (tie.spec shl-result returns)

@@ -1,0 +1,35 @@
+-- What the contracts of the parts cite; nothing of the report's meaning stands here. Definitions only.
+--   Wrote before after at end ys     ys was written after the first `at` bytes and ends at `end`; bytes beyond are unchanged
+--   Printable r                      a full run with at most 32 steps, whose critical values are whole numbers
+--   FewDigits n ds                   the first n of these numbers of digits are at most 7
+--   PrintableFile f                  what is known of an accepted file's trial and run, so that the text fits
+use Prim.Native.Nat.{ℕ, _+_, _≤_, _<_}
+use mathlib.Core.Path.{_≡_}
+use mathlib.Core.List.{List, _++_}
+use lib.ListN.{length, getD, take, drop}
+use lib.Dec.{T}
+use lib.Ieee.{binary64, fits, inSigned}
+use Rattle.stepdown.specs.declared.FullRun.{FullRun}
+use Rattle.filerun.specs.declared.FileRun.{FileRun}
+use Rattle.rendering.specs.Reports.{recordAt}
+
+pub record Wrote (before after : List ℕ) (at end : ℕ) (ys : List ℕ) : Type 0 where
+  pub ends : end ≡ at + length ys
+  pub text : take end after ≡ take at before ++ ys
+  pub beyond : drop end after ≡ drop end before
+
+pub record Printable (r : FullRun) : Type 0 where
+  pub few-steps : r .steps ≤ 32
+  pub whole : (i : ℕ) → i < r .steps → T (inSigned binary64 63 (recordAt r i .critical))
+  pub held : (i : ℕ) → i < r .steps → T (fits binary64 (recordAt r i .critical))
+
+abbrev pub FewDigits : ℕ → List ℕ → Type 0
+FewDigits n ds = (i : ℕ) → i < n → getD ds i 0 ≤ 7
+
+pub record PrintableFile (f : FileRun) : Type 0 where
+  pub pairs-most : f .trial .pairs ≤ 9
+  pub offers-most : f .trial .offers ≤ 16
+  pub a-most : f .trial .a ≤ 16383
+  pub b-some : 0 < f .trial .b
+  pub digits-few : FewDigits (f .trial .offers) (f .trial .digits)
+  pub run-printable : Printable (f .run)

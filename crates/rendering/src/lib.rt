@@ -1,0 +1,57 @@
+// The report of a trial file, as text (document 01, "Report and C call"). The definitions are in specs/, their laws in proofs/.
+mod lines; // the lines of a report
+mod text; // words and numbers in a byte buffer
+
+use filerun::FileRun;
+ghost use mathlib.Core.Path.{_≡_};
+ghost use Prim.Native.Nat.{_≤_};
+ghost use lib.ListN.{length};
+ghost use Rattle.rendering.specs.Reports.{textOf};
+ghost use Rattle.rendering.specs.Renderings.{renderingOf, afterRendering};
+ghost use Rattle.rendering.specs.Internal.{Wrote, PrintableFile};
+
+// What rendering answers: 0 and the length of the text, or 12 and 0 where the buffer is too short for it.
+pub struct Rendering {
+    pub refusal: u32,
+    pub length: usize,
+}
+
+// the text for what a file's full run answers
+fn compose(out: &mut [u8], f: FileRun) -> usize
+    requires { ⌜ (3000 ≤ length (now out)) × (f .run .refusal ≡ 0 → PrintableFile f) ⌝ }
+    ensures { λ r. ⌜ Wrote (now (out .entry)) (now (out .exit)) 0 r (textOf f) × (r ≤ 3000) ⌝ }
+{
+    let run = f.run;
+    let refusal = run.refusal;
+    if refusal != 0 {
+        return lines::numbered(out, 0, b"refused", refusal as usize);
+    }
+    let t = f.trial;
+    let at = lines::head(out, t);
+    let at1 = lines::steps(out, at, run);
+    let at2 = lines::offers(out, at1, t, run);
+    let judged = run.judged;
+    let n = verdicts::rejected_count(judged, t.offers);
+    lines::numbered(out, at2, b"end", n)
+}
+
+// The report of a file, or its refusal, as text into the buffer's first places. Where the buffer is too short it is unchanged.
+pub fn report(file: &[u8], out: &mut [u8]) -> Rendering
+    ensures { λ r. ⌜ r ≡ renderingOf (now (file .entry)) (length (now (out .entry))) ⌝ }
+    ensures { λ r. ⌜ now (out .exit) ≡ afterRendering (now (file .entry)) (now (out .entry)) ⌝ }
+{
+    let f = filerun::full_run(file);
+    let mut space = [0u8; 3000];
+    let n = compose(&mut space, f);
+    if out.len() < n {
+        return Rendering {
+            refusal: 12,
+            length: 0,
+        };
+    }
+    text::put_all(out, 0, &space[..n]);
+    Rendering {
+        refusal: 0,
+        length: n,
+    }
+}

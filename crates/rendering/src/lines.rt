@@ -1,0 +1,151 @@
+// The lines of a report, each put after the first `at` bytes.
+use crate::text;
+use stepdown::FullRun;
+use stepdown::Record;
+use stepdown::Verdict;
+use trial::Trial;
+ghost use mathlib.Core.Path.{_≡_};
+ghost use mathlib.Core.List.{[], _∷_};
+ghost use Prim.Native.Nat.{_+_, _*_, _^_, _<_, _≤_};
+ghost use lib.ListN.{length};
+ghost use lib.Dec.{T};
+ghost use lib.Ieee.{binary64, fits, inSigned};
+ghost use Rattle.stepdown.specs.Tables.{allowance};
+ghost use Rattle.verdicts.specs.Verdicts.{rejectedCount};
+ghost use Rattle.rendering.specs.Ascii.{ascii};
+ghost use Rattle.rendering.specs.Text.{decimal, line};
+ghost use Rattle.rendering.specs.Reports.{headLine, stepLine, verdictWord, verdictStep, offerLine, linesTo, stepLineAt, offerLineAt, refusedText};
+ghost use Rattle.rendering.specs.Internal.{Wrote, Printable, FewDigits};
+
+// M: the rows of a trial's table
+fn rows(pairs: usize) -> usize
+    requires { ⌜ pairs ≤ 9 ⌝ }
+    ensures { λ r. ⌜ (r ≡ 2 ^ pairs) × (r ≤ 512) ⌝ }
+{
+    1usize << pairs
+}
+
+// e: of M rows, the number that may lie above a critical value
+fn allowed(m: usize, a: usize, b: usize) -> usize
+    requires { ⌜ (m ≤ 512) × (a ≤ 16383) × (0 < b) ⌝ }
+    ensures { λ r. ⌜ r ≡ allowance m a b ⌝ }
+{
+    m * a / b
+}
+
+// pairs, offers, k, e and rows
+pub(crate) fn head(out: &mut [u8], t: Trial) -> usize
+    requires { ⌜ (128 ≤ length (now out)) × (t .pairs ≤ 9) × (t .a ≤ 16383) × (0 < t .b) ⌝ }
+    ensures { λ r. ⌜ Wrote (now (out .entry)) (now (out .exit)) 0 r (headLine t) × (r ≤ 128) ⌝ }
+{
+    let m = rows(t.pairs);
+    let e = allowed(m, t.a, t.b);
+    let at = text::put_all(out, 0, b"trial");
+    let at1 = text::put_field(out, at, t.pairs);
+    let at2 = text::put_field(out, at1, t.offers);
+    let at3 = text::put_field(out, at2, t.k);
+    let at4 = text::put_field(out, at3, e);
+    let at5 = text::put_field(out, at4, m);
+    text::put(out, at5, b'\n')
+}
+
+// a step's number and critical value
+fn step(out: &mut [u8], at: usize, m: Record) -> usize
+    requires { ⌜ (at + 48 ≤ length (now out)) × T (fits binary64 (m .critical)) × T (inSigned binary64 63 (m .critical)) ⌝ }
+    ensures { λ r. ⌜ Wrote (now (out .entry)) (now (out .exit)) at r (stepLine m) × (r ≤ at + 48) ⌝ }
+{
+    let at1 = text::put_all(out, at, b"step");
+    let at2 = text::put_field(out, at1, m.step);
+    let at3 = text::put_cents(out, at2, m.critical);
+    text::put(out, at3, b'\n')
+}
+
+fn verdict_word(out: &mut [u8], at: usize, v: Verdict) -> usize
+    requires { ⌜ at + 8 ≤ length (now out) ⌝ }
+    ensures { λ r. ⌜ Wrote (now (out .entry)) (now (out .exit)) at r (ascii (verdictWord v)) × (r ≤ at + 8) ⌝ }
+{
+    match v {
+        Verdict::Rejected(_, _) => text::put_all(out, at, b"rejected"),
+        Verdict::Kept(_) => text::put_all(out, at, b"kept"),
+    }
+}
+
+// the step that rejected, or the last step
+fn verdict_step(v: Verdict, last: usize) -> usize
+    ensures { λ r. ⌜ r ≡ verdictStep last v ⌝ }
+{
+    match v {
+        Verdict::Rejected(step, _) => step,
+        Verdict::Kept(_) => last,
+    }
+}
+
+// an offer: printed code, verdict, step, count
+fn offer(
+    out: &mut [u8],
+    at: usize,
+    code: usize,
+    digits: usize,
+    v: Verdict,
+    last: usize,
+    count: usize,
+) -> usize
+    requires { ⌜ (at + 59 ≤ length (now out)) × (digits ≤ 7) ⌝ }
+    ensures { λ r. ⌜ Wrote (now (out .entry)) (now (out .exit)) at r (offerLine code digits v last count) × (r ≤ at + 59) ⌝ }
+{
+    let at1 = text::put_printed(out, at, code, digits);
+    let at2 = text::put(out, at1, b' ');
+    let at3 = verdict_word(out, at2, v);
+    let at4 = text::put_field(out, at3, verdict_step(v, last));
+    let at5 = text::put_field(out, at4, count);
+    text::put(out, at5, b'\n')
+}
+
+// a word, a number and a line end
+pub(crate) fn numbered(out: &mut [u8], at: usize, word: &[u8], n: usize) -> usize
+    requires { ⌜ at + length (now word) + 22 ≤ length (now out) ⌝ }
+    ensures { λ r. ⌜ Wrote (now (out .entry)) (now (out .exit)) at r (line (now (word .entry)) (decimal n ∷ [])) × (r ≤ at + length (now (word .entry)) + 22) ⌝ }
+{
+    let at1 = text::put_all(out, at, word);
+    let at2 = text::put_field(out, at1, n);
+    text::put(out, at2, b'\n')
+}
+
+pub(crate) fn steps(out: &mut [u8], at: usize, run: FullRun) -> usize
+    requires { ⌜ (at ≤ 128) × (3000 ≤ length (now out)) × Printable run ⌝ }
+    ensures { λ r. ⌜ Wrote (now (out .entry)) (now (out .exit)) at r (linesTo (run .steps) (stepLineAt run)) × (r ≤ at + 48 * 32) ⌝ }
+{
+    let n = run.steps;
+    let mut next = at;
+    let mut i: usize = 0;
+    while i < n {
+        let m = run.records[i];
+        next = step(out, next, m);
+        i += 1;
+    }
+    next
+}
+
+pub(crate) fn offers(out: &mut [u8], at: usize, t: Trial, run: FullRun) -> usize
+    requires { ⌜ (at ≤ 1664) × (3000 ≤ length (now out)) × (t .offers ≤ 16) × FewDigits (t .offers) (t .digits) ⌝ }
+    ensures { λ r. ⌜ Wrote (now (out .entry)) (now (out .exit)) at r (linesTo (t .offers) (offerLineAt t run)) × (r ≤ at + 59 * 16) ⌝ }
+{
+    let n = t.offers;
+    let mut next = at;
+    let mut i: usize = 0;
+    while i < n {
+        let j = run.judged[i];
+        let v = j.verdict;
+        next = offer(
+            out,
+            next,
+            t.codes[i] as usize,
+            t.digits[i] as usize,
+            v,
+            run.steps,
+            run.counts[i],
+        );
+        i += 1;
+    }
+    next
+}
