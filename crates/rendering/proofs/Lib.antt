@@ -5,3 +5,5 @@ pub mod Composed
 pub mod Values
 pub mod Printing
 pub mod Rendered
+pub mod Lengths
+pub mod Examples

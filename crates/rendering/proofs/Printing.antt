@@ -1,6 +1,7 @@
 -- What is known of an accepted file, so that its text fits and nothing is cut off.
 --   wholeCents x        the value is a whole number of cents, within what f64 holds exactly
 --   printable-file      of every accepted file
+--   printed-cents       the printed number of cents is the critical value
 use Prim.Native.Nat.{ℕ, zero, suc, _-_, _^_, _≤_, _<_}
 use native.Mathlib.Omega.{arith}
 use mathlib.Core.Path.{_≡_, refl, sym, ap, _∙_, subst}
@@ -38,8 +39,9 @@ use Rattle.trialfile.proofs.Places.{printed}
 use Rattle.trialfile.proofs.RoundTrip.{read-accepted, read-typed}
 use Rattle.filerun.specs.FileRuns.{acceptedFile, refusedFile, fileRun}
 use Rattle.filerun.specs.declared.FileRun.{FileRun}
-use Rattle.rendering.specs.Reports.{trialText, refusedText, textOf, recordAt}
+use Rattle.rendering.specs.Reports.{cents, recordAt}
 use Rattle.rendering.specs.Internal.{FewDigits, Printable, PrintableFile}
+use Rattle.rendering.proofs.Signed.{cents-exact}
 use Rattle.rendering.proofs.Values.{records-hold}
 
 -- ---- critical values are whole numbers
@@ -128,3 +130,9 @@ printable-file bytes = go (fileRefusal bytes) refl
 
 pub printable-run : (bytes : List ℕ) (f : FileRun) → f ≡ fileRun bytes → f .run .refusal ≡ 0 → PrintableFile f
 printable-run bytes f e h = subst PrintableFile (sym e) (printable-file bytes (ap (λ (g : FileRun). g .run .refusal) (sym e) ∙ h))
+
+-- the printed number of cents is the critical value: nothing is cut off
+pub printed-cents : (t : Trial) → trialRefusal t ≡ 0 → (i : ℕ) → i < length ((trialRun t) .records)
+    → ofInt binary64 (cents (recordAt (acceptedRun (trialRun t)) i .critical)) ≡ recordAt (acceptedRun (trialRun t)) i .critical
+unfolding acceptedRun
+printed-cents t h i l = let p = run-printable t (accepted t h) in cents-exact (recordAt (acceptedRun (trialRun t)) i .critical) (p .held i l) (p .whole i l)

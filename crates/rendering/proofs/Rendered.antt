@@ -2,14 +2,17 @@
 --   text-refused, text-report     the text in either case
 --   text-length, text-taken       the text, where it is written from the start
 --   render-short, render-done     each answer with its buffer: too short, and written
+--   rendered-within               the answered length is within the buffer
+--   rendered-whole                a buffer of `longestReport` places holds every text whole
 use Prim.Native.Nat.{ℕ, _≤_, _<_}
 use native.Mathlib.Omega.{arith}
 use mathlib.Core.Path.{_≡_, refl, sym, ap, ap₂, _∙_}
-use mathlib.Core.Bool.{Bool, cond}
+use mathlib.Core.Bool.{Bool, true, false, cond}
 use mathlib.Core.List.{List, [], _∷_, _++_}
-use lib.ListN.{length, take}
+use lib.ListN.{length, take, drop}
+use lib.Seq.{take-at}
 use lib.Dec.{eqb, ltb}
-use borrow.Author.Tests.{eq-eqb, ne-eqb, lt-ltb, le-ltb}
+use borrow.Author.Tests.{eq-eqb, ne-eqb, lt-ltb, le-ltb, ltb-false}
 use Rattle.stepdown.specs.Buffers.{written}
 use Rattle.stepdown.specs.Refusals.{firstRefusal}
 use Rattle.verdicts.specs.Verdicts.{rejectedCount}
@@ -21,6 +24,7 @@ use Rattle.rendering.specs.Reports.{headLine, linesTo, stepLineAt, offer
 use Rattle.rendering.specs.Renderings.{renderRefusal, renderingOf, afterRendering}
 use Rattle.rendering.specs.Internal.{Wrote}
 use Rattle.rendering.specs.declared.Rendering.{Rendering}
+use Rattle.rendering.proofs.Lengths.{longestReport, report-fits}
 
 -- ---- the text
 
@@ -66,3 +70,24 @@ module _ (bytes buf : List ℕ) (n : ℕ) (e : n ≡ length (reportOf bytes)) wh
   render-done out h w =
       let r : 0 ≡ renderRefusal bytes (length buf) = sym (refusal-is ∙ ap (λ (b : Bool). cond b 12 0) (le-ltb (length buf) n h)) in
       (ap (answered 0) e ∙ ap (λ (m : ℕ). answered m (cond (eqb m 0) (length (reportOf bytes)) 0)) r, w ∙ ap (λ (m : ℕ). cond (eqb m 0) (written (reportOf bytes) buf) buf) r)
+
+-- ---- what callers know of the answer
+
+pub rendered-within : (bytes : List ℕ) (places : ℕ) → (renderingOf bytes places) .length ≤ places
+unfolding renderingOf renderRefusal firstRefusal
+rendered-within bytes places = go (ltb places (length (reportOf bytes))) (ltb-false places (length (reportOf bytes)))
+  where
+    go : (b : Bool) → (b ≡ false → length (reportOf bytes) ≤ places) → cond (eqb (cond b 12 0) 0) (length (reportOf bytes)) 0 ≤ places
+    go true h = omega arith
+    go false h = h refl
+
+-- a buffer of `longestReport` places holds every text whole
+module _ (bytes buf : List ℕ) (h : longestReport ≤ length buf) where
+  accepted : renderRefusal bytes (length buf) ≡ 0
+  accepted = refusal-is bytes buf (length (reportOf bytes)) refl ∙ ap (λ (b : Bool). cond b 12 0) (le-ltb (length buf) (length (reportOf bytes)) (omega (arith, report-fits bytes)))
+
+  pub rendered-whole : take ((renderingOf bytes (length buf)) .length) (afterRendering bytes buf) ≡ reportOf bytes
+  unfolding renderingOf afterRendering
+  rendered-whole =
+      ap (λ (n : ℕ). take (cond (eqb n 0) (length (reportOf bytes)) 0) (cond (eqb n 0) (written (reportOf bytes) buf) buf)) accepted
+      ∙ take-at (reportOf bytes) (drop (length (reportOf bytes)) buf) (length (reportOf bytes)) refl

@@ -1,0 +1,14 @@
+-- W as printed: a starred example of document 01.
+use mathlib.Core.Path.{_≡_, refl}
+use lib.Ieee.{lt, le, toSigned}
+use Rattle.stepdown.specs.Answers.{acceptedRun}
+use Rattle.trial.specs.Exchange.{trialRun}
+use Rattle.trialfile.specs.Words.{bytesOf, signed}
+use Rattle.trialfile.specs.Examples.{wordsW}
+use Rattle.rendering.specs.Ascii.{ascii}
+use Rattle.rendering.specs.Text.{printed, decimalUpTo}
+use Rattle.rendering.specs.Reports.{reportOf}
+
+pub w-report : reportOf (bytesOf wordsW) ≡ ascii "trial 3 2 1 2 8\nstep 1 4\nstep 2 2\n0042 rejected 1 1\n7 kept 2 3\nend 1\n"
+unfolding reportOf bytesOf wordsW signed acceptedRun trialRun lt le toSigned printed decimalUpTo
+w-report = refl
