@@ -1,6 +1,12 @@
-# `make test` is the one test command: the reference implementation and the text tool first, then `rt ci`, which proves every crate
-# of crates.txt from nothing, tries the must-fail edits and runs the programs.
-.PHONY: test
+# make run    proves and builds the report program, and prints the report of samples/w.trial
+# make test   the one test command: the reference implementation, the tools and the C calls first, then `rt ci`, which proves every
+#             crate of crates.txt from nothing, tries the must-fail edits and runs the programs
+.PHONY: run test
+run:
+	@mkdir -p target
+	@rt check report > target/run.log 2>&1 || { cat target/run.log; exit 1; }
+	@target/bin/report < samples/w.trial
+
 test:
 	@python3 -m unittest discover -s tests
 	@rt ci
