@@ -1,12 +1,13 @@
 -- Laws of ordered conditions.
 --   none-first, none-append, none-join    where none holds, none decides; of two lists one after the other
 --   orElse, first-append                  the first list decides, or else the second
-use Prim.Native.Nat.{ℕ, zero, suc, _<_}
+--   first-most                            what decides is no more than the largest number
+use Prim.Native.Nat.{ℕ, zero, suc, _≤_, _<_}
 use native.Mathlib.Omega.{arith}
 use mathlib.Core.Path.{_≡_, refl, ap, _∙_}
 use mathlib.Core.Bool.{Bool, true, false, cond}
 use mathlib.Core.List.{[], _∷_, _++_}
-use lib.Dec.{T, ltb, ltb→lt}
+use lib.Dec.{T, ltb, leb, ltb→lt, leb→le}
 use Rattle.order.proofs.Booleans.{and-left, and-right}
 use Rattle.order.specs.Counting.{all}
 use Rattle.stepdown.specs.Refusals.{Checks, firstRefusal}
@@ -47,3 +48,12 @@ first-append (c ∷ s) t n = go (c .0) (c .1) (ltb→lt 0 (c .1) (and-left (ltb 
     go true zero p e = absurd (omega arith)
     go true (suc m) p e = refl
     go false m p e = e
+
+pub first-most : (m : ℕ) (cs : Checks) → T (all (λ c. leb (c .1) m) cs) → firstRefusal cs ≤ m
+unfolding firstRefusal all
+first-most m [] h = omega arith
+first-most m (c ∷ cs) h = go (c .0) (leb→le (c .1) m (and-left (leb (c .1) m) (all (λ c. leb (c .1) m) cs) h)) (first-most m cs (and-right (leb (c .1) m) (all (λ c. leb (c .1) m) cs) h))
+  where
+    go : (b : Bool) → c .1 ≤ m → firstRefusal cs ≤ m → cond b (c .1) (firstRefusal cs) ≤ m
+    go true here later = here
+    go false here later = later

@@ -1,5 +1,7 @@
 -- What the words of an accepted file are known to be.
 --   Passed, passed       what holds at each place
+--   file-numbered        every condition of a file has a number above 0
+--   refusal-most         a file's refusal is at most 8
 --   words-many           how many words there are
 --   trial-accepted       their trial is accepted
 --   trial-typed          its arrays have their lengths
@@ -12,11 +14,12 @@ use mathlib.Core.Bool.{false, not, _||_}
 use mathlib.Core.List.{List, [], _∷_, _++_, map, zipWith}
 use lib.ListN.{length, take, drop, replicate, length-append, length-map, length-drop, length-replicate, take-append-drop}
 use lib.Seq.{take-at, length-take-le}
-use lib.Dec.{ltb, eqb}
+use lib.Dec.{T, ltb, leb, eqb}
 use lib.IntN.{pos}
 use borrow.Author.Tests.{ltb-false, eqb-true, not-false}
 use Rattle.order.specs.Counting.{all}
-use Rattle.order.proofs.Counts.{all-append}
+use Rattle.order.proofs.Booleans.{and-right}
+use Rattle.order.proofs.Counts.{all-append, all-le}
 use Rattle.stepdown.specs.Refusals.{badLevel}
 use Rattle.stepdown.proofs.Accepted.{NoneHolds, none-holds, or-none}
 use Rattle.trial.specs.Record.{Typed}
@@ -26,9 +29,9 @@ use Rattle.trialfile.specs.Words.{wordsOf, word, kindOf, aOf, bOf, unuse
 use Rattle.trialfile.specs.Files.{padded, shaped, trialOf, wordsBefore, longest, badLength, offerPlaces, differencePlaces, endPlace, placeChecks, fileChecks, fileRefusal}
 use Rattle.trialfile.specs.Writings.{fileWords}
 use Rattle.trialfile.proofs.Fields.{level-again, shape-again, end-again}
-use Rattle.trialfile.proofs.Checks.{Numbered, none-first, none-append, none-join}
+use Rattle.trialfile.proofs.Checks.{Numbered, first-most, none-first, none-append, none-join}
 use Rattle.trialfile.proofs.Parts.{product-most}
-use Rattle.trialfile.proofs.Places.{right-kind, offers-numbered, differences-numbered, offers-accepted, offers-again, differences-accepted, differences-again}
+use Rattle.trialfile.proofs.Places.{right-kind, fileNumber, offers-within, differences-within, within-numbered, offers-accepted, offers-again, differences-accepted, differences-again}
 
 -- ---- padding
 
@@ -57,16 +60,26 @@ alone [] h k = absurd (omega arith)
 alone (w ∷ []) h k = refl
 alone (v ∷ w ∷ ws) h k = absurd (omega arith)
 
-file-numbered : (bytes : List ℕ) → Numbered (fileChecks bytes)
+-- ---- the numbers
+
+file-within : (bytes : List ℕ) → T (all fileNumber (fileChecks bytes))
 unfolding fileChecks placeChecks trialOf all
-file-numbered bytes =
+file-within bytes =
     let ws = wordsOf bytes in
     let t = trialOf ws in
     let os = drop 2 ws in
     let ds = drop (t .offers) os in
     let end = drop (t .offers * t .pairs) ds in
-    all-append (λ c. ltb 0 (c .1)) (offerPlaces [] (t .offers) os) (differencePlaces (t .offers * t .pairs) ds ++ endPlace (wordsBefore t) end) (offers-numbered [] (t .offers) os)
-    (all-append (λ c. ltb 0 (c .1)) (differencePlaces (t .offers * t .pairs) ds) (endPlace (wordsBefore t) end) (differences-numbered (t .offers * t .pairs) ds) tt)
+    all-append fileNumber (offerPlaces [] (t .offers) os) (differencePlaces (t .offers * t .pairs) ds ++ endPlace (wordsBefore t) end) (offers-within [] (t .offers) os)
+    (all-append fileNumber (differencePlaces (t .offers * t .pairs) ds) (endPlace (wordsBefore t) end) (differences-within (t .offers * t .pairs) ds) tt)
+
+pub file-numbered : (bytes : List ℕ) → Numbered (fileChecks bytes)
+file-numbered bytes = within-numbered (fileChecks bytes) (file-within bytes)
+
+pub refusal-most : (bytes : List ℕ) → fileRefusal bytes ≤ 8
+unfolding fileRefusal
+refusal-most bytes =
+    first-most 8 (fileChecks bytes) (all-le fileNumber (λ c. leb (c .1) 8) (fileChecks bytes) (λ c. and-right (ltb 0 (c .1)) (leb (c .1) 8)) (file-within bytes))
 
 module _ (ws : List ℕ) where
   abbrev pub offersIn : List ℕ

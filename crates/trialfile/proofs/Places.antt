@@ -1,6 +1,7 @@
 -- Laws of the places of a file: offers and differences, from words to values and back.
 --   right-kind, no-other                         a word of its place's kind
---   offers-numbered, differences-numbered        every number is above 0
+--   offers-within, differences-within            every number is from 1 to 8
+--   offers-numbered, differences-numbered        and so above 0
 --   Printed, printed                             what it is for an offer to pass 5
 --   offers-pass, codes-back, digits-back         the words of accepted offers pass, and hold them
 --   offers-accepted, offers-again                the offers of words that pass are accepted, and make the same words
@@ -8,14 +9,16 @@
 use Prim.Native.Nat.{ℕ, zero, suc, _^_, _≤_, _<_}
 use native.Mathlib.Omega.{arith}
 use mathlib.Core.Path.{_≡_, refl, sym, ap, ap₂, _∙_, subst}
-use mathlib.Core.Bool.{false, not}
+use mathlib.Core.Bool.{Bool, false, not, _&&_}
 use mathlib.Core.List.{List, [], _∷_, _++_, map, zipWith}
 use lib.ListN.{length, take, drop}
-use lib.Dec.{leb, eqb}
+use lib.Dec.{T, ltb, leb, eqb}
 use lib.IntN.{ℤ, natAbs}
 use borrow.Author.Tests.{ltb-false, leb-false, eqb-true, not-false, eq-eqb}
 use Rattle.order.specs.Counting.{all}
-use Rattle.stepdown.specs.Refusals.{outside}
+use Rattle.order.proofs.Booleans.{and-left}
+use Rattle.order.proofs.Counts.{all-le}
+use Rattle.stepdown.specs.Refusals.{Checks, outside}
 use Rattle.stepdown.proofs.Accepted.{NoneHolds, or-none, inside}
 use Rattle.trial.specs.Refusals.{badDigits, has, badDifference, offerChecks, differenceChecks}
 use Rattle.trialfile.specs.Words.{word, kindOf, digitsOf, codeOf, differenceOf, offerWord, differenceWord}
@@ -29,17 +32,30 @@ right-kind kind w h = eqb-true (kindOf w) kind (not-false (eqb (kindOf w) kind) 
 pub no-other : (kind w : ℕ) → kindOf w ≡ kind → otherKind kind w ≡ false
 no-other kind w h = ap not (eq-eqb (kindOf w) kind h)
 
--- ---- every number is above 0
+-- ---- the numbers
+
+-- a condition whose number is one of a file's
+abbrev pub fileNumber : Bool × ℕ → Bool
+fileNumber c = ltb 0 (c .1) && leb (c .1) 8
+
+pub offers-within : (earlier : List ℕ) (n : ℕ) (ws : List ℕ) → T (all fileNumber (offerPlaces earlier n ws))
+unfolding offerPlaces all
+offers-within earlier zero ws = tt
+offers-within earlier (suc n) ws = offers-within (codeOf (word ws 0) ∷ earlier) n (drop 1 ws)
+
+pub differences-within : (n : ℕ) (ws : List ℕ) → T (all fileNumber (differencePlaces n ws))
+unfolding differencePlaces all
+differences-within zero ws = tt
+differences-within (suc n) ws = differences-within n (drop 1 ws)
+
+pub within-numbered : (cs : Checks) → T (all fileNumber cs) → Numbered cs
+within-numbered cs = all-le fileNumber (λ c. ltb 0 (c .1)) cs (λ c. and-left (ltb 0 (c .1)) (leb (c .1) 8))
 
 pub offers-numbered : (earlier : List ℕ) (n : ℕ) (ws : List ℕ) → Numbered (offerPlaces earlier n ws)
-unfolding offerPlaces all
-offers-numbered earlier zero ws = tt
-offers-numbered earlier (suc n) ws = offers-numbered (codeOf (word ws 0) ∷ earlier) n (drop 1 ws)
+offers-numbered earlier n ws = within-numbered (offerPlaces earlier n ws) (offers-within earlier n ws)
 
 pub differences-numbered : (n : ℕ) (ws : List ℕ) → Numbered (differencePlaces n ws)
-unfolding differencePlaces all
-differences-numbered zero ws = tt
-differences-numbered (suc n) ws = differences-numbered n (drop 1 ws)
+differences-numbered n ws = within-numbered (differencePlaces n ws) (differences-within n ws)
 
 -- ---- offers
 
