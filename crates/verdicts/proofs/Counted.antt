@@ -1,5 +1,5 @@
 -- Laws of the count of rejected verdicts.
---   count-most              it is no more than the verdicts that are looked at
+--   count-most, count-few   it is no more than the verdicts, and than those that are looked at
 --   count-on                one verdict more
 --   count-end               past the last verdict nothing is counted
 use Prim.Native.Nat.{ℕ, _+_, _≤_, _<_}
@@ -18,6 +18,10 @@ use Rattle.verdicts.specs.Verdicts.{isRejected, rejectedCount}
 pub count-most : (n : ℕ) (js : List Judged) → rejectedCount n js ≤ length js
 unfolding rejectedCount
 count-most n js = omega (arith, count-length (λ (j : Judged). isRejected (j .verdict)) (take n js), length-take n js)
+
+pub count-few : (n : ℕ) (js : List Judged) → rejectedCount n js ≤ n
+unfolding rejectedCount
+count-few n js = omega (arith, count-length (λ (j : Judged). isRejected (j .verdict)) (take n js), length-take n js)
 
 pub count-on : (i : ℕ) (js : List Judged) (d : Judged) (total : ℕ) → i < length js → total ≡ rejectedCount i js → total + bit (isRejected (getD js i d .verdict)) ≡ rejectedCount (i + 1) js
 unfolding rejectedCount count
