@@ -1,0 +1,74 @@
+-- `put_steps`. The invariant: the first i bytes hold the steps of the first i verdicts.
+use mathlib.Core.Path.{_≡_, refl}
+use Prim.Native.Nat.{_≤_, _-_}
+use native.Mathlib.Omega.{arith}
+use lib.Dec.{T}
+use lib.ListN.{length, take, length-set}
+use borrow.Author.Needs.{needs}
+use Rattle.stepdown.proofs.Filling.{filled}
+use Rattle.verdicts.specs.Verdicts.{smallSteps}
+use Rattle.host.proofs.Putting.{stepOf, step-small, put-start, put-turn, put-end}
+use Rattle.host.proofs.put_steps.Statement.{statement}
+use Rattle.host.proofs.put_steps.Tie as tie
+
+abbrev Inv-loop : tie.InvT-loop
+Inv-loop n out₀ judged i₀ out i = (i ≤ n) × (n ≤ 32) × (n ≤ length out₀) × T (smallSteps judged) × (length judged ≡ 32) × (length out ≡ length out₀) × (out ≡ filled stepOf (take n judged) i out₀)
+
+abbrev μ-loop : tie.MeasureT-loop
+μ-loop n out₀ judged i₀ out i = n - i
+
+loop-holds : tie.Need-loop-holds Inv-loop μ-loop
+loop-holds c = let p = c .before .pre in (omega arith, p .0, p .1, p .2, search needs, refl, put-start (c .before .args .t1) (c .before .args .n) (c .before .args .out .now))
+
+mul-j : tie.Need-mul-j Inv-loop μ-loop
+mul-j c = search needs
+
+array-copy-out-j : tie.Need-array-copy-out-j Inv-loop μ-loop
+array-copy-out-j c = search needs
+
+rejecting-step-requires : tie.Need-rejecting-step-requires Inv-loop μ-loop
+rejecting-step-requires c κs = search needs
+
+cast-out : tie.Need-cast-out Inv-loop μ-loop
+cast-out c =
+    let l = c .before .before .before .loop .inv in
+    record { fits = step-small _ _ _ _ (c .rejecting-step .ensures) (l .3) (omega (arith, l .1, l .4)) }
+
+slice-write-out : tie.Need-slice-write-out Inv-loop μ-loop
+slice-write-out c = search needs
+
+add-i : tie.Need-add-i Inv-loop μ-loop
+add-i c = search needs
+
+loop-less : tie.Need-loop-less Inv-loop μ-loop
+loop-less c = search needs
+
+loop-again : tie.Need-loop-again Inv-loop μ-loop
+loop-again c =
+    let l = c .before .before .before .loop .inv in
+    let t = c .before .before .loop-test .taken in
+    (omega arith, l .1, l .2, l .3, l .4, simp length-set (l .5), put-turn _ _ _ _ (c .rejecting-step .ensures) _ _ _ t (omega (arith, l .1, l .4)) (l .2) (l .6))
+
+same-length : tie.Need-same-length Inv-loop μ-loop
+same-length c = search needs
+
+returns : tie.Need-returns Inv-loop μ-loop
+returns c = let l = c .before .loop .inv in put-end _ _ _ _ _ (l .0) (c .loop-test .left) (omega (arith, l .1, l .4)) (l .6)
+
+pub put-steps-spec : {M : Type 1} → statement M
+put-steps-spec =
+    tie.close
+    (tie.spec
+    Inv-loop
+    μ-loop
+    loop-holds
+    mul-j
+    array-copy-out-j
+    rejecting-step-requires
+    cast-out
+    slice-write-out
+    add-i
+    loop-less
+    loop-again
+    same-length
+    returns)

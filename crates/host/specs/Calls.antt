@@ -1,0 +1,48 @@
+-- The calls for hosts written in C (document 01, "Report and C call"). Definitions only.
+--   stepBytes n js           the rejecting steps of the first n verdicts, 0 where one is kept
+--   returned refusal count   what a call returns: the number of rejected, or 100 plus the refusal number
+--   bufferAfter refusal new old     what a lent buffer holds after a call: `new`, or `old` where the call is refused
+--   fileOffers bytes         how many offers the trial of a file has
+--   trialVerdictsRefusal bytes places     of a file and a buffer of so many bytes: what the file is turned away for, then 12
+--   trialVerdictsAnswer bytes places      what the call returns
+--   trialVerdictsBuffer bytes buf         the buffer afterwards: the rejecting steps in its first bytes, or unchanged where the call is refused
+use Prim.Native.Nat.{ℕ, _+_}
+use mathlib.Core.Bool.{cond}
+use mathlib.Core.List.{List, _++_, map}
+use lib.ListN.{length, take}
+use lib.Dec.{eqb}
+use Rattle.stepdown.specs.Buffers.{written}
+use Rattle.stepdown.specs.Refusals.{firstRefusal, tooShort}
+use Rattle.stepdown.specs.declared.Judged.{Judged}
+use Rattle.verdicts.specs.Verdicts.{rejectingStep, rejectedCount}
+use Rattle.trialfile.specs.Words.{wordsOf}
+use Rattle.trialfile.specs.Files.{trialOf, fileChecks}
+use Rattle.filerun.specs.FileRuns.{fileRun}
+
+abbrev pub stepBytes : ℕ → List Judged → List ℕ
+stepBytes n js = map (λ j. rejectingStep (j .verdict)) (take n js)
+
+abbrev pub returned : ℕ → ℕ → ℕ
+returned refusal count = cond (eqb refusal 0) count (100 + refusal)
+
+abbrev pub bufferAfter : {A : Type 0} → ℕ → List A → List A → List A
+bufferAfter refusal new old = cond (eqb refusal 0) new old
+
+-- ---- a file
+
+abbrev pub fileOffers : List ℕ → ℕ
+fileOffers bytes = trialOf (wordsOf bytes) .offers
+
+unfoldable pub trialVerdictsRefusal : List ℕ → ℕ → ℕ
+unfolding firstRefusal fileChecks
+trialVerdictsRefusal bytes places = firstRefusal (fileChecks bytes ++ tooShort places (fileOffers bytes))
+
+unfoldable pub trialVerdictsAnswer : List ℕ → ℕ → ℕ
+unfolding trialVerdictsRefusal rejectedCount fileRun
+trialVerdictsAnswer bytes places =
+    returned (trialVerdictsRefusal bytes places) (rejectedCount (fileOffers bytes) (fileRun bytes .run .judged))
+
+unfoldable pub trialVerdictsBuffer : List ℕ → List ℕ → List ℕ
+unfolding trialVerdictsRefusal fileRun
+trialVerdictsBuffer bytes buf =
+    bufferAfter (trialVerdictsRefusal bytes (length buf)) (written (stepBytes (fileOffers bytes) (fileRun bytes .run .judged)) buf) buf
