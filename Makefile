@@ -10,3 +10,9 @@ run:
 test:
 	@python3 -m unittest discover -s tests
 	@rt ci
+
+# The sample host in C; then `target/host samples/w.trial` prints the verdicts of a trial file.
+.PHONY: host
+host:
+	@rt staticlib host
+	@gcc -Wall -Wextra -Werror -O2 -Iinclude samples/host.c target/staticlib/libhost.a -o target/host

@@ -1,0 +1,60 @@
+/*
+ * Becardlarder for hosts written in C: which offers of a trial are rejected, by an exact randomization test.
+ *
+ * Link with libhost.a and the C library, on x86-64 Linux. The functions are proved to return, to read and write nothing
+ * but what is said here, and to answer what their definitions give. In return each pointer has to reach as many places
+ * as the length beside it says, and a buffer that is written overlaps nothing else that is handed over. A pointer whose
+ * length is 0 is not used, and may be null.
+ *
+ * Threads: the functions keep no state and allocate nothing. Any number of threads may call them at the same time, each
+ * with buffers of its own.
+ *
+ * Answers: below 100 the answer is the number of rejected offers. Above 100 it is 100 plus one of these refusal numbers,
+ * and nothing has been written:
+ *
+ *    1  the file is empty, its length is not a multiple of 4 bytes, or it is above BECARDLARDER_LONGEST_FILE
+ *    2  a word is missing, or of another kind than its place needs
+ *    3  level a/b: a or b is zero, a is not below b, or b is above 16383
+ *    4  a count or k is outside its range, k is above the offers, or bits 27-24 of the shape are not zero
+ *    5  printed digits outside 1 to 7, or an offer's number has more digits than that
+ *    6  an offer's number equals an earlier offer's
+ *    7  a difference is outside -134217727 to 134217727
+ *    8  the count in the end word is wrong, or words stand after it
+ *   12  a buffer is too short
+ */
+#ifndef BECARDLARDER_H
+#define BECARDLARDER_H
+
+#include <stddef.h>
+#include <stdint.h>
+
+#ifdef __cplusplus
+extern "C" {
+#endif
+
+/* A refused call answers this plus the refusal number. */
+#define BECARDLARDER_REFUSED 100
+
+/* The longest trial file, in bytes, and the most offers that it can have. */
+#define BECARDLARDER_LONGEST_FILE 652
+#define BECARDLARDER_MOST_OFFERS 16
+
+/*
+ * Reads a trial file and runs its trial.
+ *
+ * Returns the number of rejected offers. verdicts[i] is then the step that rejected offer i (in file order, from 0), or
+ * 0 where the offer is kept; bytes beyond the offers are unchanged. The buffer needs a byte for each offer:
+ * BECARDLARDER_MOST_OFFERS bytes are always enough.
+ *
+ * Refusals: 1 first, then word by word from the start, the kind (2) before the value: 3, 4, at each offer 5 and 6,
+ * 7, 8. A buffer too short (12) is judged last. The buffer is then unchanged.
+ *
+ * Stack: less than 80 KB.
+ */
+uint32_t trial_verdicts(const uint8_t *file, size_t file_len, uint8_t *verdicts, size_t verdicts_len);
+
+#ifdef __cplusplus
+}
+#endif
+
+#endif

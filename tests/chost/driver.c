@@ -1,0 +1,112 @@
+/*
+ * Puts framed cases to the calls of becardlarder.h, each on a stack whose use is measured.
+ *
+ * A frame of standard input has a byte that names the call, its numbers (64 bits each), then its data:
+ *   F  file length, buffer length; the file's bytes
+ * The answer on standard output is the result (32 bits), then every place of each lent buffer and GUARD places beyond
+ * it. All of these hold MARK before the call. At the end standard error tells the most stack that a call has used.
+ * The build gives MARK and GUARD.
+ */
+#include <stdio.h>
+#include <stdlib.h>
+#include <string.h>
+#include <ucontext.h>
+
+#include "becardlarder.h"
+
+enum { STACK = 1 << 18, PAINT = 0xA5 };
+
+static unsigned char stack[STACK];
+static ucontext_t driver, call;
+
+/* The case: its numbers and data, and the answer. */
+static uint64_t n[2];
+static uint8_t *data, *verdicts;
+static uint32_t result;
+
+static void fail(const char *message)
+{
+    fprintf(stderr, "driver: %s\n", message);
+    exit(1);
+}
+
+static void *places(size_t bytes)
+{
+    void *p = malloc(bytes + 1);
+    if (p == NULL)
+        fail("out of memory");
+    return p;
+}
+
+static void read_all(void *to, size_t bytes)
+{
+    if (fread(to, 1, bytes, stdin) != bytes)
+        fail("frame cut short");
+}
+
+static void write_all(const void *from, size_t bytes)
+{
+    if (fwrite(from, 1, bytes, stdout) != bytes)
+        fail("answer not written");
+}
+
+/* A pointer to so many places; null where there are none. */
+static void *lent(void *p, size_t length)
+{
+    return length == 0 ? NULL : p;
+}
+
+static void call_file(void)
+{
+    result = trial_verdicts(lent(data, n[0]), n[0], lent(verdicts, n[1]), n[1]);
+}
+
+/* Makes a call on the measured stack. */
+static void on_stack(void (*f)(void))
+{
+    if (getcontext(&call) != 0)
+        fail("no context");
+    call.uc_stack.ss_sp = stack;
+    call.uc_stack.ss_size = STACK;
+    call.uc_link = &driver;
+    makecontext(&call, f, 0);
+    if (swapcontext(&driver, &call) != 0)
+        fail("no context");
+}
+
+static size_t stack_used(void)
+{
+    size_t untouched = 0;
+    while (untouched < STACK && stack[untouched] == PAINT)
+        untouched++;
+    return STACK - untouched;
+}
+
+static void file_case(void)
+{
+    read_all(n, 2 * sizeof n[0]);
+    data = places(n[0]);
+    read_all(data, n[0]);
+    verdicts = places(n[1] + GUARD);
+    memset(verdicts, MARK, n[1] + GUARD);
+    on_stack(call_file);
+    write_all(&result, sizeof result);
+    write_all(verdicts, n[1] + GUARD);
+    free(data);
+    free(verdicts);
+}
+
+int main(void)
+{
+    int kind;
+    memset(stack, PAINT, STACK);
+    while ((kind = getchar()) != EOF) {
+        if (kind != 'F')
+            fail("unknown call");
+        file_case();
+    }
+    if (fflush(stdout) != 0)
+        fail("answer not written");
+    fprintf(stderr, "stack %zu\n", stack_used());
+    return 0;
+}

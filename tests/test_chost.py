@@ -1,0 +1,155 @@
+"""The calls for C, made from C: each answer and every lent place, against the reference.
+
+`rt` proves the crate and builds its static library, gcc compiles the driver and the
+sample host; where either is missing the tests fail.
+"""
+
+import struct
+import subprocess
+import tempfile
+import unittest
+from dataclasses import dataclass
+from pathlib import Path
+
+from cases import cases_of
+from expected import MARK
+from reference import ccall
+from reference.refusals import Refused
+from reference.table import Rejected
+from reference.trial import full_run
+from reference.trialfile import read
+
+ROOT = Path(__file__).resolve().parent.parent
+LIBRARY = ROOT / "target" / "staticlib" / "libhost.a"
+FLAGS = ("-Wall", "-Wextra", "-Werror", "-O2", "-I", ROOT / "include")
+GUARD = 8  # places beyond each lent buffer that the driver shows too
+FILE_STACK = 80 * 1024  # bytes: what include/becardlarder.h promises
+
+_folder = tempfile.TemporaryDirectory()
+
+
+def run(*words) -> None:
+    """Run a command in the repository; what it says is told where it fails."""
+    done = subprocess.run(words, cwd=ROOT, capture_output=True, text=True)
+    if done.returncode != 0:
+        raise AssertionError(f"{words[0]} failed:\n{done.stdout[-4000:]}\n{done.stderr[-4000:]}")
+
+
+def compiled(source: str, *more) -> Path:
+    """The program of a C file, linked with the library."""
+    program = Path(_folder.name) / Path(source).stem
+    run("gcc", *FLAGS, *more, ROOT / source, LIBRARY, "-o", program)
+    return program
+
+
+def setUpModule():
+    run("rt", "staticlib", "host")
+
+
+def tearDownModule():
+    _folder.cleanup()
+
+
+@dataclass(frozen=True)
+class Call:
+    """A frame for the driver, and what it is to answer: the result, then the lent places."""
+
+    name: str
+    frame: bytes
+    answer: bytes
+
+
+def answers(driver: Path, calls):
+    """The driver's answer to each call, and the most stack that a call has used."""
+    done = subprocess.run([driver], input=b"".join(call.frame for call in calls),
+                          capture_output=True, check=True)
+    at, found = 0, []
+    for call in calls:
+        found.append(done.stdout[at:at + len(call.answer)])
+        at += len(call.answer)
+    if at != len(done.stdout):
+        raise AssertionError(f"{len(done.stdout)} bytes of answers for {at}")
+    return found, int(done.stderr.split()[-1])
+
+
+def file_call(case, room: int) -> Call:
+    """A file case with a buffer of so many bytes."""
+    buffer = bytearray([MARK]) * room
+    result = ccall.trial_verdicts(case.data, buffer)
+    return Call(f"{case.name}, buffer of {room}",
+                b"F" + struct.pack("<2Q", len(case.data), room) + case.data,
+                struct.pack("<I", result) + buffer + bytes([MARK]) * GUARD)
+
+
+def file_calls():
+    """Every file case, with buffers too short, exact and longer."""
+    for case in cases_of("file"):
+        trial = read(case.data)
+        rooms = {0, 16} if isinstance(trial, Refused) else {trial.offers - 1, trial.offers}
+        for room in sorted(rooms | {case.buffer_room}):
+            yield file_call(case, room)
+
+
+class Driver(unittest.TestCase):
+    @classmethod
+    def setUpClass(cls):
+        cls.driver = compiled("tests/chost/driver.c", f"-DMARK={MARK}", f"-DGUARD={GUARD}")
+
+    def compare(self, calls, stack: int):
+        """Each answer of the driver is the reference's, within so much stack."""
+        found, used = answers(self.driver, calls)
+        for call, answer in zip(calls, found):
+            self.assertEqual(answer, call.answer, call.name)
+        self.assertLess(used, stack)
+
+    def test_trial_verdicts(self):
+        calls = list(file_calls())
+        results = {struct.unpack("<I", call.answer[:4])[0] for call in calls}
+        self.assertGreaterEqual(results, set(range(17)) | set(range(101, 109)) | {112})
+        self.compare(calls, FILE_STACK)
+
+
+def sample_lines(data: bytes) -> str:
+    """What the sample host prints for an accepted file."""
+    trial = read(data)
+    verdicts = full_run(trial).verdicts
+    codes = [str(code).zfill(digits) for code, digits in zip(trial.codes, trial.digits)]
+    lines = [f"{code} rejected in step {verdict.step}" if isinstance(verdict, Rejected)
+             else f"{code} kept" for code, verdict in zip(codes, verdicts)]
+    return "".join(f"{line}\n" for line in (*lines, f"rejected: {ccall.trial_verdicts(data, None)}"))
+
+
+class SampleHost(unittest.TestCase):
+    @classmethod
+    def setUpClass(cls):
+        cls.host = compiled("samples/host.c")
+
+    def call(self, *words, data=b""):
+        """Exit status, standard output and standard error of the sample host."""
+        done = subprocess.run([self.host, *words], input=data, capture_output=True)
+        return done.returncode, done.stdout.decode(), done.stderr.decode()
+
+    def test_w(self):
+        answer = (0, "0042 rejected in step 1\n7 kept\nrejected: 1\n", "")
+        w = ROOT / "samples" / "w.trial"
+        self.assertEqual(self.call(w), answer)
+        self.assertEqual(self.call(data=w.read_bytes()), answer)
+
+    def test_samples(self):
+        for path in sorted((ROOT / "samples").glob("*.trial")):
+            self.assertEqual(self.call(path), (0, sample_lines(path.read_bytes()), ""), path)
+
+    def test_refused(self):
+        for data in (b"", bytes(656)):
+            status, out, message = self.call(data=data)
+            self.assertEqual((status, out), (1, ""))
+            self.assertTrue(message.startswith("refused 1: "), message)
+
+    def test_unreadable(self):
+        status, out, message = self.call(ROOT / "samples" / "missing.trial")
+        self.assertEqual((status, out), (2, ""))
+        self.assertIn("missing.trial", message)
+
+
+if __name__ == "__main__":
+    unittest.main()
