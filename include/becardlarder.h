@@ -1,5 +1,5 @@
 /*
- * Becardlarder for hosts written in C: which offers of a trial are rejected, by an exact randomization test.
+ * Becardlarder for hosts written in C: which offers are rejected, by an exact randomization test with the stepdown method.
  *
  * Link with libhost.a and the C library, on x86-64 Linux. The functions are proved to return, to read and write nothing
  * but what is said here, and to answer what their definitions give. In return each pointer has to reach as many places
@@ -13,14 +13,20 @@
  * and nothing has been written:
  *
  *    1  the file is empty, its length is not a multiple of 4 bytes, or it is above BECARDLARDER_LONGEST_FILE
- *    2  a word is missing, or of another kind than its place needs
+ *    2  a word of the file is missing, or of another kind than its place needs
  *    3  level a/b: a or b is zero, a is not below b, or b is above 16383
- *    4  a count or k is outside its range, k is above the offers, or bits 27-24 of the shape are not zero
+ *    4  a count or k is outside its range, or k is above the offers (columns); in a file also: bits 27-24 of the shape are
+ *       not zero
  *    5  printed digits outside 1 to 7, or an offer's number has more digits than that
  *    6  an offer's number equals an earlier offer's
  *    7  a difference is outside -134217727 to 134217727
  *    8  the count in the end word is wrong, or words stand after it
+ *    9  the table's length is not rows times columns
+ *   10  the observed row is not below rows
+ *   11  a value of the table is infinite or no number
  *   12  a buffer is too short
+ *
+ * Where several hold, the order that stands at each function decides.
  */
 #ifndef BECARDLARDER_H
 #define BECARDLARDER_H
@@ -39,19 +45,43 @@ extern "C" {
 #define BECARDLARDER_LONGEST_FILE 652
 #define BECARDLARDER_MOST_OFFERS 16
 
+/* The most rows and columns of a table. */
+#define BECARDLARDER_MOST_ROWS 4096
+#define BECARDLARDER_MOST_COLUMNS 32
+
 /*
  * Reads a trial file and runs its trial.
  *
- * Returns the number of rejected offers. verdicts[i] is then the step that rejected offer i (in file order, from 0), or
- * 0 where the offer is kept; bytes beyond the offers are unchanged. The buffer needs a byte for each offer:
+ * Returns the number of rejected offers. verdicts[i] is then the step that rejected offer i (in file order, from 0), or 0
+ * where the offer is kept; bytes beyond the offers are unchanged. The buffer needs a byte for each offer:
  * BECARDLARDER_MOST_OFFERS bytes are always enough.
  *
- * Refusals: 1 first, then word by word from the start, the kind (2) before the value: 3, 4, at each offer 5 and 6,
- * 7, 8. A buffer too short (12) is judged last. The buffer is then unchanged.
+ * Refusals: 1, then word by word from the start, the kind (2) before the value: 3, 4, at each offer 5 and 6, 7, 8. A
+ * buffer too short (12) comes last. Where the call is refused the buffer is unchanged.
  *
- * Stack: less than 80 KB.
+ * Stack: about 80 KB, and less than 96 KB.
  */
 uint32_t trial_verdicts(const uint8_t *file, size_t file_len, uint8_t *verdicts, size_t verdicts_len);
+
+/*
+ * Runs a table of rows times columns values, row after row, one of which is the observed row. An offer is a column.
+ *
+ * A table has 1 to BECARDLARDER_MOST_ROWS rows and 1 to BECARDLARDER_MOST_COLUMNS columns. The tolerance k is from 1 to 4
+ * and at most the columns, the level is a/b with 0 < a < b <= 16383, and rows count from 0.
+ *
+ * Returns the number of rejected columns. verdicts[j] is then the step that rejected column j, or 0 where it is kept, and
+ * the first `rows` places of work hold plus zero; places beyond are unchanged in both. The buffers need a byte for each
+ * column and a value for each row.
+ *
+ * Refusals: 4, 3, 9, 10, 11, then 12 for either buffer. Where the call is refused both buffers are unchanged.
+ *
+ * Values compare as IEEE 754 doubles, minus zero and zero being equal. That needs denormals-are-zero to be off in the
+ * calling thread, as it is unless the program was linked with -ffast-math or has switched it on.
+ *
+ * Stack: less than 16 KB.
+ */
+uint32_t table_verdicts(const double *table, size_t table_len, size_t rows, size_t columns, size_t k, size_t a, size_t b,
+                        size_t observed, double *work, size_t work_len, uint8_t *verdicts, size_t verdicts_len);
 
 #ifdef __cplusplus
 }

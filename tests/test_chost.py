@@ -23,7 +23,7 @@ ROOT = Path(__file__).resolve().parent.parent
 LIBRARY = ROOT / "target" / "staticlib" / "libhost.a"
 FLAGS = ("-Wall", "-Wextra", "-Werror", "-O2", "-I", ROOT / "include")
 GUARD = 8  # places beyond each lent buffer that the driver shows too
-FILE_STACK = 80 * 1024  # bytes: what include/becardlarder.h promises
+FILE_STACK, TABLE_STACK = 96 * 1024, 16 * 1024  # bytes: what include/becardlarder.h promises
 
 _folder = tempfile.TemporaryDirectory()
 
@@ -90,6 +90,26 @@ def file_calls():
             yield file_call(case, room)
 
 
+def table_call(case, room: int) -> Call:
+    """A table case with a verdict buffer of so many bytes."""
+    figures = (case.rows, case.columns, case.k, case.a, case.b, case.observed)
+    work, buffer = [float(MARK)] * case.work_room, bytearray([MARK]) * room
+    result = ccall.table_verdicts(case.values, *figures, work, buffer)
+    places = struct.pack(f"<{len(work) + GUARD}d", *work, *[float(MARK)] * GUARD)
+    return Call(f"{case.name}, buffer of {room}",
+                b"T" + struct.pack("<9Q", len(case.values), *figures, case.work_room, room)
+                + struct.pack(f"<{len(case.values)}d", *case.values),
+                struct.pack("<I", result) + places + buffer + bytes([MARK]) * GUARD)
+
+
+def table_calls():
+    """Every table case, with verdict buffers too short, exact and longer."""
+    for case in cases_of("table"):
+        needed = min(case.columns, 40)
+        for room in sorted({0, max(needed, 1) - 1, needed, needed + 3}):
+            yield table_call(case, room)
+
+
 class Driver(unittest.TestCase):
     @classmethod
     def setUpClass(cls):
@@ -107,6 +127,12 @@ class Driver(unittest.TestCase):
         results = {struct.unpack("<I", call.answer[:4])[0] for call in calls}
         self.assertGreaterEqual(results, set(range(17)) | set(range(101, 109)) | {112})
         self.compare(calls, FILE_STACK)
+
+    def test_table_verdicts(self):
+        calls = list(table_calls())
+        results = {struct.unpack("<I", call.answer[:4])[0] for call in calls}
+        self.assertGreaterEqual(results, {*range(13), 32, 103, 104, 109, 110, 111, 112})
+        self.compare(calls, TABLE_STACK)
 
 
 def sample_lines(data: bytes) -> str:

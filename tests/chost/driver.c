@@ -3,6 +3,7 @@
  *
  * A frame of standard input has a byte that names the call, its numbers (64 bits each), then its data:
  *   F  file length, buffer length; the file's bytes
+ *   T  table length, rows, columns, k, a, b, observed, work length, buffer length; the table's values
  * The answer on standard output is the result (32 bits), then every place of each lent buffer and GUARD places beyond
  * it. All of these hold MARK before the call. At the end standard error tells the most stack that a call has used.
  * The build gives MARK and GUARD.
@@ -20,8 +21,10 @@ static unsigned char stack[STACK];
 static ucontext_t driver, call;
 
 /* The case: its numbers and data, and the answer. */
-static uint64_t n[2];
-static uint8_t *data, *verdicts;
+static uint64_t n[9];
+static void *data;
+static double *work;
+static uint8_t *verdicts;
 static uint32_t result;
 
 static void fail(const char *message)
@@ -32,7 +35,7 @@ static void fail(const char *message)
 
 static void *places(size_t bytes)
 {
-    void *p = malloc(bytes + 1);
+    void *p = malloc(bytes == 0 ? 1 : bytes);
     if (p == NULL)
         fail("out of memory");
     return p;
@@ -61,6 +64,12 @@ static void call_file(void)
     result = trial_verdicts(lent(data, n[0]), n[0], lent(verdicts, n[1]), n[1]);
 }
 
+static void call_table(void)
+{
+    result = table_verdicts(lent(data, n[0]), n[0], n[1], n[2], n[3], n[4], n[5], n[6],
+                            lent(work, n[7]), n[7], lent(verdicts, n[8]), n[8]);
+}
+
 /* Makes a call on the measured stack. */
 static void on_stack(void (*f)(void))
 {
@@ -82,17 +91,49 @@ static size_t stack_used(void)
     return STACK - untouched;
 }
 
+/* The numbers of a frame, and its data, of which a place has so many bytes. */
+static void read_case(size_t numbers, size_t size)
+{
+    read_all(n, numbers * sizeof n[0]);
+    data = places(n[0] * size);
+    read_all(data, n[0] * size);
+}
+
+static void lend_verdicts(size_t length)
+{
+    verdicts = places(length + GUARD);
+    memset(verdicts, MARK, length + GUARD);
+}
+
+static void lend_work(size_t length)
+{
+    work = places((length + GUARD) * sizeof *work);
+    for (size_t i = 0; i < length + GUARD; i++)
+        work[i] = MARK;
+}
+
 static void file_case(void)
 {
-    read_all(n, 2 * sizeof n[0]);
-    data = places(n[0]);
-    read_all(data, n[0]);
-    verdicts = places(n[1] + GUARD);
-    memset(verdicts, MARK, n[1] + GUARD);
+    read_case(2, sizeof(uint8_t));
+    lend_verdicts(n[1]);
     on_stack(call_file);
     write_all(&result, sizeof result);
     write_all(verdicts, n[1] + GUARD);
     free(data);
+    free(verdicts);
+}
+
+static void table_case(void)
+{
+    read_case(9, sizeof(double));
+    lend_work(n[7]);
+    lend_verdicts(n[8]);
+    on_stack(call_table);
+    write_all(&result, sizeof result);
+    write_all(work, (n[7] + GUARD) * sizeof *work);
+    write_all(verdicts, n[8] + GUARD);
+    free(data);
+    free(work);
     free(verdicts);
 }
 
@@ -101,9 +142,12 @@ int main(void)
     int kind;
     memset(stack, PAINT, STACK);
     while ((kind = getchar()) != EOF) {
-        if (kind != 'F')
+        if (kind == 'F')
+            file_case();
+        else if (kind == 'T')
+            table_case();
+        else
             fail("unknown call");
-        file_case();
     }
     if (fflush(stdout) != 0)
         fail("answer not written");

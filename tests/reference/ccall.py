@@ -1,9 +1,14 @@
-"""The call for C (document 01, "Report and C call")."""
+"""The calls for C (document 01, "Report and C call"), and the same for a host that holds a table."""
 
 from .refusals import Refused, fill, too_short
-from .table import Rejected
+from .table import Rejected, full_run as run_table, table_refusal
 from .trial import full_run
 from .trialfile import read
+
+
+def steps(run) -> bytes:
+    """Per offer, the rejecting step or 0."""
+    return bytes(v.step if isinstance(v, Rejected) else 0 for v in run.verdicts)
 
 
 def trial_verdicts(data: bytes, buffer: bytearray) -> int:
@@ -18,5 +23,22 @@ def trial_verdicts(data: bytes, buffer: bytearray) -> int:
     if too_short(buffer, trial.offers):
         return 112
     run = full_run(trial)
-    fill(buffer, bytes(v.step if isinstance(v, Rejected) else 0 for v in run.verdicts))
+    fill(buffer, steps(run))
+    return run.rejected()
+
+
+def table_verdicts(values, rows, columns, k, a, b, observed, work, buffer) -> int:
+    """The number of rejected columns, or 100 plus the refusal number.
+
+    The buffer's first bytes hold, per column, the rejecting step or 0, and the work
+    buffer plus zero for each row. Either too short (12) is judged after all checks
+    of the table.
+    """
+    number = table_refusal(values, rows, columns, k, a, b, observed)
+    if number is not None:
+        return 100 + number
+    if too_short(work, rows) or too_short(buffer, columns):
+        return 112
+    run = run_table(values, rows, columns, k, a, b, observed, work)
+    fill(buffer, steps(run))
     return run.rejected()

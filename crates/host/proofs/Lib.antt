@@ -1,3 +1,4 @@
 pub mod Putting
 pub mod Returned
 pub mod Files
+pub mod Tables

@@ -6,13 +6,20 @@
 --   trialVerdictsRefusal bytes places     of a file and a buffer of so many bytes: what the file is turned away for, then 12
 --   trialVerdictsAnswer bytes places      what the call returns
 --   trialVerdictsBuffer bytes buf         the buffer afterwards: the rejecting steps in its first bytes, or unchanged where the call is refused
+--   tableVerdictsRefusal                  of a table, a work buffer of so many values and a buffer of so many bytes: 4, 3, 9, 10, 11, then 12 for either
+--   tableVerdictsAnswer                   what the call returns
+--   tableVerdictsWork                     the work buffer afterwards: plus zero in its first places, a place for each row
+--   tableVerdictsBuffer                   the buffer afterwards
 use Prim.Native.Nat.{ℕ, _+_}
 use mathlib.Core.Bool.{cond}
 use mathlib.Core.List.{List, _++_, map}
 use lib.ListN.{length, take}
 use lib.Dec.{eqb}
-use Rattle.stepdown.specs.Buffers.{written}
-use Rattle.stepdown.specs.Refusals.{firstRefusal, tooShort}
+use lib.Ieee.{Float}
+use Rattle.stepdown.specs.Buffers.{written, cleared}
+use Rattle.stepdown.specs.Refusals.{firstRefusal, tooShort, tableChecks}
+use Rattle.stepdown.specs.Runs.{tableRun}
+use Rattle.stepdown.specs.Answers.{acceptedRun}
 use Rattle.stepdown.specs.declared.Judged.{Judged}
 use Rattle.verdicts.specs.Verdicts.{rejectingStep, rejectedCount}
 use Rattle.trialfile.specs.Words.{wordsOf}
@@ -46,3 +53,27 @@ unfoldable pub trialVerdictsBuffer : List ℕ → List ℕ → List ℕ
 unfolding trialVerdictsRefusal fileRun
 trialVerdictsBuffer bytes buf =
     bufferAfter (trialVerdictsRefusal bytes (length buf)) (written (stepBytes (fileOffers bytes) (fileRun bytes .run .judged)) buf) buf
+
+-- ---- a table
+
+unfoldable pub tableVerdictsRefusal : List Float → ℕ → ℕ → ℕ → ℕ → ℕ → ℕ → ℕ → ℕ → ℕ
+unfolding firstRefusal tableChecks
+tableVerdictsRefusal t rows columns k a b observed work places =
+    firstRefusal (tableChecks t rows columns k a b observed ++ (tooShort work rows ++ tooShort places columns))
+
+unfoldable pub tableVerdictsAnswer : List Float → ℕ → ℕ → ℕ → ℕ → ℕ → ℕ → ℕ → ℕ → ℕ
+unfolding tableVerdictsRefusal rejectedCount acceptedRun tableRun
+tableVerdictsAnswer t rows columns k a b observed work places =
+    returned (tableVerdictsRefusal t rows columns k a b observed work places) (rejectedCount columns (acceptedRun (tableRun t rows columns k a b observed) .judged))
+
+unfoldable pub tableVerdictsWork : List Float → ℕ → ℕ → ℕ → ℕ → ℕ → ℕ → List Float → ℕ → List Float
+unfolding tableVerdictsRefusal
+tableVerdictsWork t rows columns k a b observed work places =
+    bufferAfter (tableVerdictsRefusal t rows columns k a b observed (length work) places) (cleared rows work) work
+
+unfoldable pub tableVerdictsBuffer : List Float → ℕ → ℕ → ℕ → ℕ → ℕ → ℕ → ℕ → List ℕ → List ℕ
+unfolding tableVerdictsRefusal acceptedRun tableRun
+tableVerdictsBuffer t rows columns k a b observed work buf =
+    bufferAfter (tableVerdictsRefusal t rows columns k a b observed work (length buf))
+    (written (stepBytes columns (acceptedRun (tableRun t rows columns k a b observed) .judged)) buf)
+    buf

@@ -7,7 +7,7 @@ ghost use lib.Dec.{T};
 ghost use lib.ListN.{length};
 ghost use Rattle.stepdown.specs.Buffers.{written};
 ghost use Rattle.verdicts.specs.Verdicts.{smallSteps};
-ghost use Rattle.host.specs.Calls.{stepBytes, trialVerdictsAnswer, trialVerdictsBuffer};
+ghost use Rattle.host.specs.Calls.{stepBytes, trialVerdictsAnswer, trialVerdictsBuffer, tableVerdictsAnswer, tableVerdictsWork, tableVerdictsBuffer};
 
 // The rejecting steps of the first n verdicts into the first bytes of a buffer.
 fn put_steps(judged: [Judged; 32], n: usize, out: &mut [u8])
@@ -45,4 +45,38 @@ pub extern "C" fn trial_verdicts(file: &[u8], verdicts: &mut [u8]) -> u32
     let judged = run.judged;
     put_steps(judged, offers, verdicts);
     verdicts::rejected_count(judged, offers) as u32
+}
+
+// Runs a table. The result is the number of rejected columns, or 100 plus the refusal number.
+// The verdict buffer's first bytes then hold, per column, the rejecting step or 0, and the work buffer's first places plus zero, one for each row;
+// where the call is refused both are unchanged.
+#[no_mangle]
+pub extern "C" fn table_verdicts(
+    table: &[f64],
+    rows: usize,
+    columns: usize,
+    k: usize,
+    a: usize,
+    b: usize,
+    observed: usize,
+    work: &mut [f64],
+    verdicts: &mut [u8],
+) -> u32
+    ensures { λ r. ⌜ r ≡ tableVerdictsAnswer (now (table .entry)) rows columns k a b observed (length (now (work .entry))) (length (now (verdicts .entry))) ⌝ }
+    ensures { λ r. ⌜ now (work .exit) ≡ tableVerdictsWork (now (table .entry)) rows columns k a b observed (now (work .entry)) (length (now (verdicts .entry))) ⌝ }
+    ensures { λ r. ⌜ now (verdicts .exit) ≡ tableVerdictsBuffer (now (table .entry)) rows columns k a b observed (length (now (work .entry))) (now (verdicts .entry)) ⌝ }
+{
+    if verdicts.len() < columns {
+        // The table's own refusals come first. With no work place a run answers those or 12, and clears nothing.
+        let run = stepdown::full_run(table, &mut work[..0], rows, columns, k, a, b, observed);
+        return 100 + run.refusal;
+    }
+    let run = stepdown::full_run(table, work, rows, columns, k, a, b, observed);
+    let refusal = run.refusal;
+    if refusal != 0 {
+        return 100 + refusal;
+    }
+    let judged = run.judged;
+    put_steps(judged, columns, verdicts);
+    verdicts::rejected_count(judged, columns) as u32
 }

@@ -1,0 +1,95 @@
+-- `table_verdicts`: where there is no byte for each column only the refusal is looked for; otherwise the table is run, the steps are written and the rejected counted.
+use native.Mathlib.Omega.{arith}
+use Rattle.verdicts.proofs.Counted.{count-few}
+use Rattle.host.proofs.Tables.{number-fits, table-known, table-short, table-refused, table-done}
+use borrow.Author.Needs.{needs}
+use Rattle.host.proofs.table_verdicts.Statement.{statement}
+use Rattle.host.proofs.table_verdicts.Tie as tie
+
+slice-relend-prefix-full-run : tie.Need-slice-relend-prefix-full-run
+slice-relend-prefix-full-run c = search needs
+
+slice-aggregate-full-run : tie.Need-slice-aggregate-full-run
+slice-aggregate-full-run c = search needs
+
+full-run-requires : tie.Need-full-run-requires
+full-run-requires c κs = search needs
+
+add-result : tie.Need-add-result
+add-result c = let r = c .before .before .before in record { fits = omega (arith, number-fits _ _ _ _ _ _ _ _ _ (r .full-run .ensures .0)) }
+
+same-length : tie.Need-same-length
+same-length c = search needs
+
+returns : tie.Need-returns
+returns c =
+    let r = c .before .before .before in
+    let s = r .before .before .before .before .before .before in
+    table-short _ _ _ _ _ _ _ (s .args .work .now) (s .args .verdicts .now) (r .before .before .if1 .taken) _ (r .full-run .ensures .0) _ (r .full-run .ensures .1)
+
+full-run-requires-2 : tie.Need-full-run-requires-2
+full-run-requires-2 c κs = search needs
+
+add-result-2 : tie.Need-add-result-2
+add-result-2 c = let r = c .before .before .before in record { fits = omega (arith, number-fits _ _ _ _ _ _ _ _ _ (r .full-run2 .ensures .0)) }
+
+same-length-2 : tie.Need-same-length-2
+same-length-2 c = search needs
+
+returns-2 : tie.Need-returns-2
+returns-2 c =
+    let r = c .before .before .before in
+    let s = r .before .before .before .before .before .before in
+    table-refused _ _ _ _ _ _ _ (s .args .work .now) (s .args .verdicts .now) (r .before .before .if1 .left) _ (r .full-run2 .ensures .0) _ (r .full-run2 .ensures .1) (c .if2 .taken)
+
+put-steps-requires : tie.Need-put-steps-requires
+put-steps-requires c κs =
+    let r = c .before .before .before .before .before in
+    let k = table-known _ _ _ _ _ _ _ _ _ (r .full-run2 .ensures .0) (c .before .before .if2 .left) in
+    (k .0, r .before .before .if1 .left, k .1)
+
+rejected-count-requires : tie.Need-rejected-count-requires
+rejected-count-requires c κs = search needs
+
+cast-result : tie.Need-cast-result
+cast-result c =
+    let e = c .before .before .before .before .before .before in
+    let r = e .before .before .before in
+    let k = table-known _ _ _ _ _ _ _ _ _ (r .full-run2 .ensures .0) (e .if2 .left) in
+    let s = r .before .before .before .before .before .before in
+    record { fits = omega (arith, k .0, c .rejected-count .ensures, count-few (s .args .columns) (r .full-run2 .result .judged)) }
+
+same-length-3 : tie.Need-same-length-3
+same-length-3 c = search needs
+
+same-length-4 : tie.Need-same-length-4
+same-length-4 c = search needs
+
+returns-3 : tie.Need-returns-3
+returns-3 c =
+    let p = c .before .before .before in
+    let e = p .before .before .before in
+    let r = e .before .before .before in
+    let s = r .before .before .before .before .before .before in
+    table-done _ _ _ _ _ _ _ (s .args .work .now) (s .args .verdicts .now) (r .before .before .if1 .left) _ (r .full-run2 .ensures .0) _ (r .full-run2 .ensures .1) (e .if2 .left) _ (p .put-steps .ensures) _ (c .rejected-count .ensures)
+
+pub table-verdicts-spec : {M : Type 1} → statement M
+table-verdicts-spec =
+    tie.close
+    (tie.spec
+    slice-relend-prefix-full-run
+    slice-aggregate-full-run
+    full-run-requires
+    add-result
+    same-length
+    returns
+    full-run-requires-2
+    add-result-2
+    same-length-2
+    returns-2
+    put-steps-requires
+    rejected-count-requires
+    cast-result
+    same-length-3
+    same-length-4
+    returns-3)
