@@ -1,0 +1,72 @@
+-- `judge_body`: offers, or else differences, or else the end.
+use mathlib.Core.Path.{refl, sym}
+use Prim.Native.Nat.{_*_, _≤_}
+use native.Mathlib.Omega.{arith}
+use Rattle.trialfile.specs.Words.{wordsOf}
+use Rattle.trialfile.proofs.Parts.{product-most}
+use Rattle.trialfile.proofs.Judged.{body-offers, body-differences, body-end}
+use borrow.Author.Needs.{needs}
+use Rattle.trialfile.proofs.judging.judge_body.Statement.{statement}
+use Rattle.trialfile.proofs.judging.judge_body.Tie as tie
+
+mul-n : tie.Need-mul-n
+mul-n c =
+    let args = c .before .args in
+    let most : args .offers * args .pairs ≤ 144 = product-most (args .offers) (args .pairs) (omega arith) (omega arith) in
+    record { fits = omega arith }
+
+judge-offers-requires : tie.Need-judge-offers-requires
+judge-offers-requires c κs = search needs
+
+returns : tie.Need-returns
+returns c =
+    let args = c .before .before .before .args in
+    sym (body-offers (wordsOf (args .file .now)) (args .offers) (args .pairs) _ (c .before .judge-offers .ensures) (c .if1 .taken))
+
+add-judge-differences : tie.Need-add-judge-differences
+add-judge-differences c = search needs
+
+judge-differences-requires : tie.Need-judge-differences-requires
+judge-differences-requires c κs =
+    let args = c .before .before .before .args in
+    let most : args .offers * args .pairs ≤ 144 = product-most (args .offers) (args .pairs) (omega arith) (omega arith) in
+    (omega arith, omega arith)
+
+returns-2 : tie.Need-returns-2
+returns-2 c =
+    sym (body-differences _ _ _ _ (c .before .before .before .judge-offers .ensures) (c .before .before .if1 .left) _ _ refl (c .before .judge-differences .ensures) (c .if2 .taken))
+
+add-judge-end : tie.Need-add-judge-end
+add-judge-end c = search needs
+
+add-judge-end-2 : tie.Need-add-judge-end-2
+add-judge-end-2 c =
+    let args = c .before .before .before .before .before .args in
+    let most : args .offers * args .pairs ≤ 144 = product-most (args .offers) (args .pairs) (omega arith) (omega arith) in
+    record { fits = omega arith }
+
+judge-end-requires : tie.Need-judge-end-requires
+judge-end-requires c κs =
+    let args = c .before .before .before .before .before .args in
+    let most : args .offers * args .pairs ≤ 144 = product-most (args .offers) (args .pairs) (omega arith) (omega arith) in
+    omega arith
+
+returns-3 : tie.Need-returns-3
+returns-3 c =
+    let d = c .before .before in
+    sym (body-end _ _ _ _ (d .before .before .judge-offers .ensures) (d .before .if1 .left) _ _ refl (d .judge-differences .ensures) (c .before .if2 .left) _ (c .judge-end .ensures))
+
+pub judge-body-spec : {M : Type 1} → statement M
+judge-body-spec =
+    tie.close
+    (tie.spec
+    mul-n
+    judge-offers-requires
+    returns
+    add-judge-differences
+    judge-differences-requires
+    returns-2
+    add-judge-end
+    add-judge-end-2
+    judge-end-requires
+    returns-3)

@@ -1,0 +1,22 @@
+-- `judge_difference`: two tests in order.
+use Rattle.trialfile.proofs.Judged.{difference-judged}
+use borrow.Author.Needs.{needs}
+use Rattle.trialfile.proofs.judging.judge_difference.Statement.{statement}
+use Rattle.trialfile.proofs.judging.judge_difference.Tie as tie
+
+bad-difference-requires : tie.Need-bad-difference-requires
+bad-difference-requires c κs = search needs
+
+first-of-requires : tie.Need-first-of-requires
+first-of-requires c κs = search needs
+
+first-of-requires-2 : tie.Need-first-of-requires-2
+first-of-requires-2 c κs = search needs
+
+returns : tie.Need-returns
+returns c =
+    difference-judged _ _ _ _ (c .before .before .bad-difference .ensures) (c .before .first-of .ensures) (c .first-of2 .ensures)
+
+pub judge-difference-spec : {M : Type 1} → statement M
+judge-difference-spec =
+    tie.close (tie.spec bad-difference-requires first-of-requires first-of-requires-2 returns)

@@ -1,0 +1,64 @@
+-- `read_codes`: the invariant is the array so far.
+use mathlib.Core.Path.{_≡_, refl, ap}
+use Prim.Native.Nat.{_+_, _-_, _%_, _≤_}
+use native.Mathlib.Omega.{arith}
+use lib.ListN.{length}
+use Rattle.trialfile.specs.Words.{wordsOf, codeOf}
+use Rattle.trialfile.proofs.Filling.{filling, fill-turn, fill-end}
+use borrow.Author.Needs.{needs}
+use Rattle.trialfile.proofs.reader.read_codes.Statement.{statement}
+use Rattle.trialfile.proofs.reader.read_codes.Tie as tie
+
+abbrev Inv-loop : tie.InvT-loop
+Inv-loop file n codes₀ i₀ codes i = (i ≤ n) × (n ≤ 16) × (n + 2 ≤ length (wordsOf file)) × (codes ≡ filling codeOf 16 0 (wordsOf file) 2 i)
+
+abbrev μ-loop : tie.MeasureT-loop
+μ-loop file n codes₀ i₀ codes i = n - i
+
+loop-holds : tie.Need-loop-holds Inv-loop μ-loop
+loop-holds c = (omega arith, omega arith, omega arith, refl)
+
+add-word-at : tie.Need-add-word-at Inv-loop μ-loop
+add-word-at c = search needs
+
+word-at-requires : tie.Need-word-at-requires Inv-loop μ-loop
+word-at-requires c κs = search needs
+
+mul-codes : tie.Need-mul-codes Inv-loop μ-loop
+mul-codes c = search needs
+
+array-write-codes : tie.Need-array-write-codes Inv-loop μ-loop
+array-write-codes c = search needs
+
+add-i : tie.Need-add-i Inv-loop μ-loop
+add-i c = search needs
+
+loop-less : tie.Need-loop-less Inv-loop μ-loop
+loop-less c = search needs
+
+loop-again : tie.Need-loop-again Inv-loop μ-loop
+loop-again c =
+    let args = c .before .before .before .before .args in
+    let l = c .before .before .loop in
+    (omega arith, omega arith, omega arith, fill-turn codeOf 16 0 (wordsOf (args .file .now)) 2 (l .i) (l .codes) (c .word-at .result % 16777216) (omega arith) (omega arith) (l .inv .3) (ap codeOf (c .word-at .ensures)))
+
+returns : tie.Need-returns Inv-loop μ-loop
+returns c =
+    let args = c .before .before .before .args in
+    fill-end codeOf 16 0 (wordsOf (args .file .now)) 2 (c .before .loop .i) (args .n) _ (c .before .loop .inv .0) (c .loop-test .left) (c .before .loop .inv .3)
+
+pub read-codes-spec : {M : Type 1} → statement M
+read-codes-spec =
+    tie.close
+    (tie.spec
+    Inv-loop
+    μ-loop
+    loop-holds
+    add-word-at
+    word-at-requires
+    mul-codes
+    array-write-codes
+    add-i
+    loop-less
+    loop-again
+    returns)
