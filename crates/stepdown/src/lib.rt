@@ -10,6 +10,9 @@ mod refusal; // what is turned away
 mod smallest; // the m-th smallest of a slice
 mod tracing; // all steps of a run, and the verdicts read off them
 
+// Conditions that a trial's values are judged by too.
+pub use refusal::bad_level;
+pub use refusal::outside;
 ghost use mathlib.Core.Path.{_≡_};
 ghost use lib.ListN.{length};
 ghost use Rattle.stepdown.specs.Answers.{beginAnswer, stepAnswer, stepWork, blankRun, fullAnswer, fullWork};

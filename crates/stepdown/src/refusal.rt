@@ -6,7 +6,8 @@ ghost use mathlib.Core.Bool.{false};
 ghost use lib.ListN.{length};
 ghost use Rattle.stepdown.specs.Refusals as refusals;
 
-fn outside(low: usize, high: usize, n: usize) -> bool
+// n is not from low to high.
+pub fn outside(low: usize, high: usize, n: usize) -> bool
     ensures { λ r. ⌜ r ≡ refusals.outside low high n ⌝ }
 {
     if n < low {
@@ -32,7 +33,7 @@ fn bad_shape(rows: usize, columns: usize, k: usize) -> bool
 }
 
 // The condition of 3.
-fn bad_level(a: usize, b: usize) -> bool
+pub fn bad_level(a: usize, b: usize) -> bool
     ensures { λ r. ⌜ r ≡ refusals.badLevel a b ⌝ }
 {
     if a == 0 {

@@ -21,7 +21,7 @@ use Rattle.trial.specs.Refusals.{trialChecks, trialRefusal}
 use Rattle.trial.specs.Lent.{tableCallRefusal, tableBuffer}
 use Rattle.trial.specs.declared.Trial.{Trial}
 use Rattle.trial.proofs.Accepted.{Accepted, accepted, trialChecks-numbered}
-use Rattle.trial.proofs.Conditions.{refused-first, refused-next}
+use Rattle.trial.proofs.Refusals.{refused-first, refused-next}
 
 -- ---- how many places
 

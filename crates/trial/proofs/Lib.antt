@@ -1,4 +1,5 @@
 pub mod Sums
+pub mod Refusals
 pub mod Accepted
 pub mod Tables
 pub mod Conditions

@@ -30,7 +30,7 @@ use Rattle.trial.specs.declared.Trial.{Trial}
 use Rattle.trial.proofs.Accepted.{Accepted, accepted, trialChecks-numbered}
 use Rattle.trial.proofs.Tables.{trialRows-sound, rowTotal-some}
 use Rattle.trial.proofs.Places.{tableOf-length}
-use Rattle.trial.proofs.Conditions.{refused-first, refused-next}
+use Rattle.trial.proofs.Refusals.{refused-first, refused-next}
 
 -- ---- the table of an accepted trial
 

@@ -1,5 +1,5 @@
 -- What of a trial record is turned away: 4, 3, then offers (at each, 5 before 6), then differences (7). Definitions only.
---   badCounts t          the condition of 4: a count or k outside its range, or k above the offers
+--   badCounts k offers pairs    the condition of 4: a count or k outside its range, or k above the offers
 --   badDigits c d        the condition of 5: printed digits outside 1 to 7, or the number c has more digits than d
 --   has c earlier        the condition of 6: the number is an earlier offer's
 --   badDifference d      the condition of 7: outside -134,217,727 to 134,217,727
@@ -17,8 +17,8 @@ use lib.IntN.{ℤ, natAbs}
 use Rattle.stepdown.specs.Refusals.{Checks, firstRefusal, outside, badLevel}
 use Rattle.trial.specs.declared.Trial.{Trial}
 
-unfoldable pub badCounts : Trial → Bool
-badCounts t = outside 1 9 (t .pairs) || (outside 1 16 (t .offers) || (outside 1 4 (t .k) || ltb (t .offers) (t .k)))
+unfoldable pub badCounts : ℕ → ℕ → ℕ → Bool
+badCounts k offers pairs = outside 1 9 pairs || (outside 1 16 offers || (outside 1 4 k || ltb offers k))
 
 unfoldable pub badDigits : ℕ → ℕ → Bool
 badDigits c d = outside 1 7 d || leb (10 ^ d) c
@@ -48,7 +48,7 @@ differenceChecks ds = map (λ d. (badDifference d, 7)) ds
 unfoldable pub trialChecks : Trial → Checks
 unfolding badCounts badLevel offerChecks differenceChecks
 trialChecks t =
-    (badCounts t, 4)
+    (badCounts (t .k) (t .offers) (t .pairs), 4)
     ∷ (badLevel (t .a) (t .b), 3)
     ∷ (offerChecks [] (take (t .offers) (t .codes)) (take (t .offers) (t .digits)) ++ differenceChecks (take (t .offers * t .pairs) (t .differences)))
 

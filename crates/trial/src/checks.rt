@@ -1,80 +1,49 @@
 // The conditions of refusals 3 to 7, in the words of specs/Refusals.
 ghost use mathlib.Core.Path.{_≡_};
-ghost use mathlib.Core.List.{[], _∷_};
+ghost use mathlib.Core.Bool.{cond};
+ghost use mathlib.Core.List.{[]};
 ghost use Prim.Native.Nat.{_≤_};
 ghost use lib.ListN.{take};
-ghost use Rattle.stepdown.specs.Refusals.{firstRefusal, badLevel};
-ghost use Rattle.stepdown.specs.Refusals as tables;
+ghost use Rattle.stepdown.specs.Refusals.{firstRefusal};
 ghost use Rattle.trial.specs.Refusals.{badCounts, badDigits, has, earlierOf, badDifference, offerChecks, differenceChecks};
-use crate::Trial;
 
 // A power of ten for each number of printed digits: the first number that has more.
 const LIMITS: [u32; 8] = [1, 10, 100, 1000, 10000, 100000, 1000000, 10000000];
 
-// The number of the first of two conditions that holds, and 0 where none does.
-pub(crate) fn first_of(b: bool, n: u32, c: bool, m: u32) -> u32
-    ensures { λ r. ⌜ r ≡ firstRefusal ((b, n) ∷ (c, m) ∷ []) ⌝ }
+// The number where the condition holds, or else the refusal after it.
+pub fn first_of(holds: bool, number: u32, after: u32) -> u32
+    ensures { λ r. ⌜ r ≡ cond holds number after ⌝ }
 {
-    if b {
-        return n;
+    if holds {
+        return number;
     }
-    if c {
-        return m;
-    }
-    0
-}
-
-// n is not from low to high.
-fn outside(low: usize, high: usize, n: usize) -> bool
-    ensures { λ r. ⌜ r ≡ tables.outside low high n ⌝ }
-{
-    if n < low {
-        return true;
-    }
-    high < n
+    after
 }
 
 // The condition of 4.
-pub(crate) fn bad_counts(t: Trial) -> bool
-    ensures { λ r. ⌜ r ≡ badCounts t ⌝ }
+pub fn bad_counts(k: usize, offers: usize, pairs: usize) -> bool
+    ensures { λ r. ⌜ r ≡ badCounts k offers pairs ⌝ }
 {
-    if outside(1, 9, t.pairs) {
+    if stepdown::outside(1, 9, pairs) {
         return true;
     }
-    if outside(1, 16, t.offers) {
+    if stepdown::outside(1, 16, offers) {
         return true;
     }
-    if outside(1, 4, t.k) {
+    if stepdown::outside(1, 4, k) {
         return true;
     }
-    t.offers < t.k
-}
-
-// The condition of 3.
-pub(crate) fn bad_level(a: usize, b: usize) -> bool
-    ensures { λ r. ⌜ r ≡ badLevel a b ⌝ }
-{
-    if a == 0 {
-        return true;
-    }
-    if b == 0 {
-        return true;
-    }
-    if b <= a {
-        return true;
-    }
-    16383 < b
+    offers < k
 }
 
 // The condition of 5.
-fn bad_digits(code: u32, digits: u8) -> bool
+pub fn bad_digits(code: u32, digits: usize) -> bool
     ensures { λ r. ⌜ r ≡ badDigits code digits ⌝ }
 {
-    let d = digits as usize;
-    if outside(1, 7, d) {
+    if stepdown::outside(1, 7, digits) {
         return true;
     }
-    LIMITS[d] <= code
+    LIMITS[digits] <= code
 }
 
 // The condition of 6: the code is one of the first i codes.
@@ -100,9 +69,10 @@ pub(crate) fn offers(codes: [u32; 16], digits: [u8; 16], n: usize) -> u32
     let mut i: usize = 0;
     while i < n {
         let code = codes[i];
-        let misprinted = bad_digits(code, digits[i]);
+        let misprinted = bad_digits(code, digits[i] as usize);
         let repeated = earlier(codes, i, code);
-        let r = first_of(misprinted, 5, repeated, 6);
+        let six = first_of(repeated, 6, 0);
+        let r = first_of(misprinted, 5, six);
         if r != 0 {
             return r;
         }
@@ -112,7 +82,7 @@ pub(crate) fn offers(codes: [u32; 16], digits: [u8; 16], n: usize) -> u32
 }
 
 // The condition of 7.
-fn bad_difference(d: i32) -> bool
+pub fn bad_difference(d: i32) -> bool
     ensures { λ r. ⌜ r ≡ badDifference d ⌝ }
 {
     if d < -134217727 {

@@ -1,8 +1,13 @@
 // A trial of offers in paired shops: its record, its checks, its table, its run.
 // The definitions are in specs/, their laws in proofs/.
-mod checks;
-mod entries;
+mod checks; // the conditions of refusals
+mod entries; // the table, place by place
 
+// Conditions that a file's values are judged by too.
+pub use checks::bad_counts;
+pub use checks::bad_difference;
+pub use checks::bad_digits;
+pub use checks::first_of;
 use stepdown::FullRun;
 ghost use mathlib.Core.Path.{_≡_};
 ghost use lib.ListN.{length};
@@ -26,9 +31,10 @@ pub struct Trial {
 pub fn check(t: Trial) -> u32
     ensures { λ r. ⌜ r ≡ trialRefusal t ⌝ }
 {
-    let counts = checks::bad_counts(t);
-    let level = checks::bad_level(t.a, t.b);
-    let f = checks::first_of(counts, 4, level, 3);
+    let counts = checks::bad_counts(t.k, t.offers, t.pairs);
+    let level = stepdown::bad_level(t.a, t.b);
+    let three = checks::first_of(level, 3, 0);
+    let f = checks::first_of(counts, 4, three);
     if f != 0 {
         return f;
     }

@@ -1,12 +1,11 @@
 -- Laws for judging a file: each turn of a loop takes the first conditions off the list.
 --   stop, pass                                   the first condition holds, or does not
---   powers, only-lowest                          what `bad_digits` and `bad_difference` test
 --   seen-hit, seen-turn, seen-none               looking back at earlier numbers
 --   part-decides, part-passes                    a list that is judged by its first part
 --   differences-start .. -end, offers-start .. -end   the loops over differences and offers
 --   level-judged .. end-judged                   the tests of one place, in order
 --   body-offers, body-differences, body-end      the words after the shape
---   counts-most, shape-most                      the counts of a shape that passes
+--   shape-most                                   the counts of a shape that passes
 --   length-bad, level-decides, shape-decides, to-body   the whole file
 use Prim.Native.Nat.{ℕ, zero, suc, _+_, _-_, _*_, _/_, _%_, _^_, _≤_, _<_}
 use native.Mathlib.Omega.{arith}
@@ -18,17 +17,22 @@ use mathlib.Core.List.{List, [], _∷_, _++_}
 use lib.ListN.{length, getD, drop, length-drop}
 use lib.Seq.{getD-drop, drop-drop}
 use lib.Dec.{ltb, eqb}
-use lib.IntN.{pos, negsuc, natAbs}
-use borrow.Author.Tests.{eq-eqb, ne-eqb, lt-ltb, le-ltb, ltb-true, ltb-false, eqb-true, eqb-false}
+use lib.IntN.{ℤ}
+use mir.Syntax.{w32}
+use mir.Val.{toZ, ofZ}
+use borrow.Author.Tests.{eq-eqb, ne-eqb}
 use Rattle.order.proofs.Booleans.{iff-ltb}
 use Rattle.order.specs.Counting.{all}
-use Rattle.stepdown.specs.Refusals.{Checks, firstRefusal, outside, badLevel}
-use Rattle.stepdown.proofs.Accepted.{none-holds, or-none, inside}
+use Rattle.stepdown.specs.Refusals.{Checks, firstRefusal, badLevel}
+use Rattle.stepdown.proofs.Accepted.{none-holds, or-none}
 use Rattle.trial.specs.Refusals.{badCounts, badDigits, has, badDifference}
-use Rattle.trialfile.specs.Words.{wordsOf, word, unusedOf, kOf, offersOf, pairsOf, codeOf, signed, differenceOf, countOf}
-use Rattle.trialfile.specs.Files.{shaped, badLength, otherKind, levelPlace, shapePlace, offerPlace, offerPlaces, earlierCodes, differencePlace, differencePlaces, endPlace, bodyPlaces, placeChecks, fileChecks, fileRefusal}
+use Rattle.trial.proofs.Refusals.{judged, judged-last}
+use Rattle.trial.proofs.Accepted.{counted}
+use Rattle.trialfile.specs.Words.{wordsOf, word, aOf, bOf, unusedOf, kOf, offersOf, pairsOf, digitsOf, codeOf, differenceOf, countOf}
+use Rattle.trialfile.specs.Files.{badLength, otherKind, levelPlace, shapePlace, offerPlace, offerPlaces, earlierCodes, differencePlace, differencePlaces, endPlace, bodyPlaces, placeChecks, fileChecks, fileRefusal}
 use Rattle.trialfile.proofs.Checks.{Numbered, orElse, nonzero-stays, first-append}
 use Rattle.trialfile.proofs.Places.{offers-numbered, differences-numbered}
+use Rattle.trialfile.proofs.Signed.{field-kept}
 use Rattle.trialfile.proofs.Words.{wordsOf-length}
 
 -- ---- conditions
@@ -44,30 +48,6 @@ pass b n cs e = ap (λ (t : Bool). cond t n (firstRefusal cs)) e
 pub none-left : firstRefusal [] ≡ 0
 unfolding firstRefusal
 none-left = refl
-
-pub powers : (d : ℕ) → d ≤ 7 → getD (1 ∷ 10 ∷ 100 ∷ 1000 ∷ 10000 ∷ 100000 ∷ 1000000 ∷ 10000000 ∷ []) d 0 ≡ 10 ^ d
-powers zero h = refl
-powers (suc zero) h = refl
-powers (suc (suc zero)) h = refl
-powers (suc (suc (suc zero))) h = refl
-powers (suc (suc (suc (suc zero)))) h = refl
-powers (suc (suc (suc (suc (suc zero))))) h = refl
-powers (suc (suc (suc (suc (suc (suc zero)))))) h = refl
-powers (suc (suc (suc (suc (suc (suc (suc zero))))))) h = refl
-powers (suc (suc (suc (suc (suc (suc (suc (suc d)))))))) h = absurd (omega arith)
-
--- of the 28-bit values only the lowest is outside the range
-pub only-lowest : (v : ℕ) → v < 268435456 → badDifference (signed v) ≡ eqb v 134217728
-unfolding badDifference signed
-only-lowest v h = go (ltb v 134217728) refl
-  where
-    high : (t : Bool) → eqb v 134217728 ≡ t → 134217728 ≤ v → ltb 134217727 (suc (268435455 - v)) ≡ t
-    high true e g = lt-ltb 134217727 (suc (268435455 - v)) (omega (arith, eqb-true v 134217728 e))
-    high false e g = le-ltb 134217727 (suc (268435455 - v)) (omega (arith, eqb-false v 134217728 e))
-
-    go : (t : Bool) → ltb v 134217728 ≡ t → ltb 134217727 (natAbs (cond t (pos v) (negsuc (268435455 - v)))) ≡ eqb v 134217728
-    go true e = let g = ltb-true v 134217728 e in le-ltb 134217727 v (omega arith) ∙ sym (ne-eqb v 134217728 (λ q. omega arith))
-    go false e = high (eqb v 134217728) refl (ltb-false v 134217728 e)
 
 -- ---- earlier offers
 
@@ -157,31 +137,28 @@ offers-start ws n = rw sub-zero
 
 -- ---- one place: the tests of the code, in order
 
-pub difference-judged : (w r v : ℕ) (b : Bool) → b ≡ badDifference (differenceOf w) → v ≡ cond b 7 0 → r ≡ cond (otherKind 4 w) 2 v → r ≡ firstRefusal (differencePlace w)
-unfolding firstRefusal
-difference-judged w r v b q e f = f ∙ ap (cond (otherKind 4 w) 2) (e ∙ ap (λ (x : Bool). cond x 7 0) q)
+pub difference-judged : (w r v : ℕ) (z : ℤ) (b : Bool) → z ≡ differenceOf w → b ≡ badDifference (toZ w32 (ofZ w32 z)) → v ≡ cond b 7 0 → r ≡ cond (otherKind 4 w) 2 v
+    → r ≡ firstRefusal (differencePlace w)
+difference-judged w r v z b d q e f = judged (otherKind 4 w) _ 2 r refl _ v (judged-last b _ 7 v (q ∙ ap badDifference (field-kept (w % 268435456) z (omega arith) d)) e) f
+
+pub level-judged : (x w r v : ℕ) (b : Bool) → w ≡ x → b ≡ badLevel (aOf w) (bOf w) → v ≡ cond b 3 0 → r ≡ cond (otherKind 1 w) 2 v → r ≡ firstRefusal (levelPlace x)
+level-judged x w r v b e q f g = judged (otherKind 1 w) _ 2 r refl _ v (judged-last b _ 3 v q f) g ∙ ap (λ (y : ℕ). firstRefusal (levelPlace y)) e
 
 -- two conditions of one number are one
 either : (b c : Bool) (n : ℕ) → cond b n (cond c n 0) ≡ cond (b || c) n 0
 either true c n = refl
 either false c n = refl
 
-pub level-judged : (x w r v : ℕ) (b : Bool) → w ≡ x → b ≡ badLevel (w / 16384 % 16384) (w % 16384) → v ≡ cond b 3 0 → r ≡ cond (otherKind 1 w) 2 v → r ≡ firstRefusal (levelPlace x)
-unfolding firstRefusal
-level-judged x w r v b e q f g = g ∙ ap (cond (otherKind 1 w) 2) (f ∙ ap (λ (y : Bool). cond y 3 0) q) ∙ ap (λ (y : ℕ). firstRefusal (levelPlace y)) e
-
-pub shape-judged : (x w r u v : ℕ) (b : Bool) → w ≡ x → b ≡ badCounts (shaped (w / 65536 % 256) (w / 256 % 256) (w % 256)) → u ≡ cond (not (eqb (w / 16777216 % 16) 0)) 4 0 → v ≡ cond b 4 u
+pub shape-judged : (x w r u v : ℕ) (b : Bool) → w ≡ x → b ≡ badCounts (kOf w) (offersOf w) (pairsOf w) → u ≡ cond (not (eqb (unusedOf w) 0)) 4 0 → v ≡ cond b 4 u
     → r ≡ cond (otherKind 2 w) 2 v → r ≡ firstRefusal (shapePlace x)
-unfolding firstRefusal
 shape-judged x w r u v b e q f g h =
-    h ∙ ap (cond (otherKind 2 w) 2) (g ∙ ap₂ (λ (y : Bool) (m : ℕ). cond y 4 m) q f ∙ either (badCounts (shaped (kOf w) (offersOf w) (pairsOf w))) (not (eqb (unusedOf w) 0)) 4)
+    judged (otherKind 2 w) _ 2 r refl _ v (judged-last (badCounts (kOf w) (offersOf w) (pairsOf w) || not (eqb (unusedOf w) 0)) _ 4 v refl (g ∙ ap₂ (λ (y : Bool) (m : ℕ). cond y 4 m) q f ∙ either (badCounts (kOf w) (offersOf w) (pairsOf w)) (not (eqb (unusedOf w) 0)) 4)) h
     ∙ ap (λ (y : ℕ). firstRefusal (shapePlace y)) e
 
-pub offer-judged : (ws : List ℕ) (i w r u v : ℕ) (b s : Bool) → w ≡ word ws (i + 2) → b ≡ badDigits (w % 16777216) (w / 16777216 % 16) → s ≡ has (w % 16777216) (earlierCodes ws i)
+pub offer-judged : (ws : List ℕ) (i w r u v : ℕ) (b s : Bool) → w ≡ word ws (i + 2) → b ≡ badDigits (codeOf w) (digitsOf w) → s ≡ has (codeOf w) (earlierCodes ws i)
     → u ≡ cond s 6 0 → v ≡ cond b 5 u → r ≡ cond (otherKind 3 w) 2 v → r ≡ firstRefusal (offerPlace (earlierCodes ws i) (word ws (i + 2)))
-unfolding firstRefusal
 offer-judged ws i w r u v b s e q p f g h =
-    h ∙ ap (cond (otherKind 3 w) 2) (g ∙ ap₂ (λ (x : Bool) (m : ℕ). cond x 5 m) q (f ∙ ap (λ (x : Bool). cond x 6 0) p))
+    judged (otherKind 3 w) _ 2 r refl _ v (judged b _ 5 v q _ u (judged-last s _ 6 u p f) g) h
     ∙ ap (λ (x : ℕ). firstRefusal (offerPlace (earlierCodes ws i) x)) e
 
 pub end-judged : (bs : List ℕ) (n w r u v : ℕ) → w ≡ word (wordsOf bs) n → u ≡ cond (ltb (n + 1) (length bs / 4)) 8 0 → v ≡ cond (not (eqb (w % 268435456) n)) 8 u
@@ -192,7 +169,7 @@ end-judged bs n w r u v e f g h =
     let at : w ≡ word (drop n (wordsOf bs)) 0 = e ∙ sym (getD-drop n (wordsOf bs) 0 0 ∙ ap (word (wordsOf bs)) (add-zero n)) in
     let more : ltb (n + 1) (length bs / 4) ≡ ltb 1 (length (drop n (wordsOf bs))) =
     iff-ltb (n + 1) (length bs / 4) 1 (length (drop n (wordsOf bs))) (λ x. omega (arith, wordsOf-length bs, length-drop n (wordsOf bs)), λ x. omega (arith, wordsOf-length bs, length-drop n (wordsOf bs))) in
-    h ∙ ap (cond (otherKind 15 w) 2) (g ∙ ap (cond (not (eqb (w % 268435456) n)) 8) (f ∙ ap (λ (y : Bool). cond y 8 0) more) ∙ either (not (eqb (countOf w) n)) (ltb 1 (length (drop n (wordsOf bs)))) 8)
+    h ∙ ap (cond (otherKind 15 w) 2) (g ∙ ap (cond (not (eqb (countOf w) n)) 8) (f ∙ ap (λ (y : Bool). cond y 8 0) more) ∙ either (not (eqb (countOf w) n)) (ltb 1 (length (drop n (wordsOf bs)))) 8)
     ∙ ap (λ (y : ℕ). cond (otherKind 15 y) 2 (cond (not (eqb (countOf y) n) || ltb 1 (length (drop n (wordsOf bs)))) 8 0)) at
 
 -- ---- the words after the shape
@@ -233,20 +210,13 @@ module _ (ws : List ℕ) (n p : ℕ) where
 
 -- ---- the whole file
 
-pub counts-most : (k n p : ℕ) (s : Bool) → s ≡ badCounts (shaped k n p) → s ≡ false → (n ≤ 16) × (p ≤ 9)
-unfolding badCounts
-counts-most k n p s e h =
-    let f = or-none (outside 1 9 p) (outside 1 16 n || (outside 1 4 k || ltb n k)) (sym e ∙ h) in
-    let g = or-none (outside 1 16 n) (outside 1 4 k || ltb n k) (f .1) in
-    (inside 1 16 n (g .0) .1, inside 1 9 p (f .0) .1)
-
 -- the counts of a shape that passes
 pub shape-most : (x w s : ℕ) → w ≡ x → s ≡ firstRefusal (shapePlace x) → s ≡ 0 → (w / 256 % 256 ≤ 16) × (w % 256 ≤ 9)
 unfolding all
 shape-most x w s e f z =
     let h = none-holds (shapePlace x) tt (sym f ∙ z) in
-    let c = or-none (badCounts (shaped (kOf x) (offersOf x) (pairsOf x))) (not (eqb (unusedOf x) 0)) (h .1 .0) in
-    subst (λ (y : ℕ). (y / 256 % 256 ≤ 16) × (y % 256 ≤ 9)) (sym e) (counts-most (kOf x) (offersOf x) (pairsOf x) false (sym (c .0)) refl)
+    let c = or-none (badCounts (kOf x) (offersOf x) (pairsOf x)) (not (eqb (unusedOf x) 0)) (h .1 .0) in
+    subst (λ (y : ℕ). (y / 256 % 256 ≤ 16) × (y % 256 ≤ 9)) (sym e) (let f = counted (kOf x) (offersOf x) (pairsOf x) (c .0) in (f .offers-most, f .pairs-most))
 
 module _ (bs : List ℕ) (b : Bool) (r : b ≡ badLength bs) where
   abbrev ws : List ℕ

@@ -45,7 +45,7 @@ trial-numbered t =
 
 -- what is known of an accepted trial's parts
 pub record Parts (t : Trial) : Type 0 where
-  pub counts : badCounts t ≡ false
+  pub counts : badCounts (t .k) (t .offers) (t .pairs) ≡ false
   pub figures : badLevel (t .a) (t .b) ≡ false
   pub offers : NoneHolds (offerChecks [] (take (t .offers) (t .codes)) (take (t .offers) (t .digits)))
   pub differences : NoneHolds (differenceChecks (take (t .offers * t .pairs) (t .differences)))

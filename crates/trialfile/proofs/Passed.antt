@@ -26,7 +26,7 @@ use Rattle.trial.specs.Record.{Typed}
 use Rattle.trial.specs.Refusals.{badCounts, offerChecks, differenceChecks, trialChecks, trialRefusal}
 use Rattle.trial.proofs.Accepted.{accepted}
 use Rattle.trialfile.specs.Words.{wordsOf, word, kindOf, aOf, bOf, unusedOf, kOf, offersOf, pairsOf, digitsOf, codeOf, differenceOf, countOf, offerWord, differenceWord}
-use Rattle.trialfile.specs.Files.{padded, shaped, trialOf, wordsBefore, longest, badLength, offerPlaces, differencePlaces, endPlace, placeChecks, fileChecks, fileRefusal}
+use Rattle.trialfile.specs.Files.{padded, trialOf, wordsBefore, longest, badLength, offerPlaces, differencePlaces, endPlace, placeChecks, fileChecks, fileRefusal}
 use Rattle.trialfile.specs.Writings.{fileWords}
 use Rattle.trialfile.proofs.Fields.{level-again, shape-again, end-again}
 use Rattle.trialfile.proofs.Checks.{Numbered, first-most, none-first, none-append, none-join}
@@ -102,7 +102,7 @@ pub record Passed (ws : List ℕ) : Type 0 where
   pub level-stands : kindOf (word ws 0) ≡ 1
   pub figures : badLevel (aOf (word ws 0)) (bOf (word ws 0)) ≡ false
   pub shape-stands : kindOf (word ws 1) ≡ 2
-  pub counts : badCounts (trialOf ws) ≡ false
+  pub counts : badCounts (kOf (word ws 1)) (offersOf (word ws 1)) (pairsOf (word ws 1)) ≡ false
   pub unused : unusedOf (word ws 1) ≡ 0
   pub offers : NoneHolds (offerPlaces [] (offersOf (word ws 1)) (drop 2 ws))
   pub differences : NoneHolds (differencePlaces (total ws) (pastOffers ws))
@@ -112,9 +112,9 @@ pub record Passed (ws : List ℕ) : Type 0 where
   pub some : 1 ≤ length (endIn ws)
 
 passed : (ws : List ℕ) → NoneHolds (placeChecks ws) → Passed ws
-unfolding placeChecks trialOf badCounts
+unfolding placeChecks trialOf
 passed ws h =
-    let s = or-none (badCounts (shaped (kOf (word ws 1)) (offersOf (word ws 1)) (pairsOf (word ws 1)))) (not (eqb (unusedOf (word ws 1)) 0)) (h .1 .1 .1 .0) in
+    let s = or-none (badCounts (kOf (word ws 1)) (offersOf (word ws 1)) (pairsOf (word ws 1))) (not (eqb (unusedOf (word ws 1)) 0)) (h .1 .1 .1 .0) in
     let o = none-append (offerPlaces [] (offersOf (word ws 1)) (drop 2 ws)) (differencePlaces (total ws) (pastOffers ws) ++ endPlace (wordsBefore (trialOf ws)) (endIn ws)) (h .1 .1 .1 .1) in
     let d = none-append (differencePlaces (total ws) (pastOffers ws)) (endPlace (wordsBefore (trialOf ws)) (endIn ws)) (o .1) in
     let e = or-none (not (eqb (countOf (word (endIn ws) 0)) (wordsBefore (trialOf ws)))) (ltb 1 (length (endIn ws))) (d .1 .1 .0) in

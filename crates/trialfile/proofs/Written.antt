@@ -18,7 +18,7 @@ use Rattle.trial.specs.Record.{Typed}
 use Rattle.trial.specs.Refusals.{badCounts, trialRefusal}
 use Rattle.trial.specs.declared.Trial.{Trial}
 use Rattle.trialfile.specs.Words.{aOf, bOf, unusedOf, kOf, offersOf, pairsOf, digitsOf, codeOf, differenceOf, countOf, levelWord, shapeWord, offerWord, differenceWord, endWord}
-use Rattle.trialfile.specs.Files.{filled, shaped, trialOf, wordsBefore, longest, badLength, levelPlace, shapePlace, offerPlaces, differencePlaces, endPlace, bodyPlaces, placeChecks, fileChecks, fileRefusal}
+use Rattle.trialfile.specs.Files.{filled, trialOf, wordsBefore, longest, badLength, levelPlace, shapePlace, offerPlaces, differencePlaces, endPlace, bodyPlaces, placeChecks, fileChecks, fileRefusal}
 use Rattle.trialfile.specs.Writings.{offerWords, differenceWords, fileWords, fileOf, fileLength, trimmed}
 use Rattle.trialfile.proofs.Words.{words-bytes, bytesOf-length}
 use Rattle.trialfile.proofs.Fields.{level-kind, level-a, level-b, shape-kind, shape-unused, shape-k, shape-offers, shape-pairs, end-kind, end-count}
@@ -29,7 +29,7 @@ use Rattle.trialfile.proofs.Places.{no-other, offers-pass, codes-back, 
 both : {b c : Bool} → b ≡ false → c ≡ false → (b || c) ≡ false
 both e f = rw (e, f)
 
-counts-same : {k n p k′ n′ p′ : ℕ} → k ≡ k′ → n ≡ n′ → p ≡ p′ → badCounts (shaped k n p) ≡ badCounts (shaped k′ n′ p′)
+counts-same : {k n p k′ n′ p′ : ℕ} → k ≡ k′ → n ≡ n′ → p ≡ p′ → badCounts k n p ≡ badCounts k′ n′ p′
 counts-same e f g = rw (e, f, g)
 
 -- the trial of words that stand part by part
@@ -135,7 +135,6 @@ module _ (t : Trial) (ty : Typed t) (h : trialRefusal t ≡ 0) where
     w = shapeWord (t .k) (t .offers) (t .pairs)
 
     shape-passes : NoneHolds (shapePlace w)
-    unfolding badCounts
     shape-passes = (
       no-other 2 w (shape-kind (t .k) (t .offers) (t .pairs) k n p),
       (

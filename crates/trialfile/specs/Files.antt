@@ -3,7 +3,6 @@
 --   padded n d xs          xs, and d in the places beyond, n places in all
 --   filled ..              the trial of these values: places that its counts don't use hold zero
 --   blank                  the trial that holds nothing but zeros
---   shaped k offers pairs  the trial that has these counts and otherwise nothing but zeros
 --   trialOf ws             the trial that words hold, by position
 --   wordsBefore t          how many words stand before the end word of a trial's file
 --   badLength bytes        the condition of 1
@@ -59,10 +58,6 @@ trialOf ws =
     filled (aOf (word ws 0)) (bOf (word ws 0)) (kOf (word ws 1)) n pairs (map codeOf offers) (map digitsOf offers)
     (map differenceOf (take (n * pairs) (drop n (drop 2 ws))))
 
--- the trial that has only counts
-abbrev pub shaped : ℕ → ℕ → ℕ → Trial
-shaped k offers pairs = filled 0 0 k offers pairs [] [] []
-
 abbrev pub wordsBefore : Trial → ℕ
 wordsBefore t = 2 + t .offers + t .offers * t .pairs
 
@@ -83,7 +78,7 @@ levelPlace w = (otherKind levelKind w, 2) ∷ (badLevel (aOf w) (bOf w), 3) ∷ 
 abbrev pub shapePlace : ℕ → Checks
 shapePlace w =
     (otherKind shapeKind w, 2)
-    ∷ (badCounts (shaped (kOf w) (offersOf w) (pairsOf w)) || not (eqb (unusedOf w) 0), 4)
+    ∷ (badCounts (kOf w) (offersOf w) (pairsOf w) || not (eqb (unusedOf w) 0), 4)
     ∷ []
 
 -- an offer after the earlier ones, whose numbers are listed

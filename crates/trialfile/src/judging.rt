@@ -1,15 +1,16 @@
-// What a file is turned away for: the conditions, and the first that holds, place by place.
+// What a file is turned away for: at each place, the first condition that holds.
 use super::word;
+use trial::first_of;
 ghost use mathlib.Core.Path.{_≡_};
-ghost use mathlib.Core.Bool.{cond};
 ghost use mathlib.Core.List.{[]};
 ghost use Prim.Native.Nat.{_+_, _<_, _≤_};
 ghost use lib.ListN.{drop};
-ghost use Rattle.stepdown.specs.Refusals.{firstRefusal, badLevel};
-ghost use Rattle.trial.specs.Refusals.{badCounts, badDigits, has, badDifference};
-ghost use Rattle.trialfile.specs.Words.{wordsOf, word, differenceOf};
-ghost use Rattle.trialfile.specs.Files.{shaped, badLength, levelPlace, shapePlace, offerPlace, offerPlaces, earlierCodes, differencePlace, differencePlaces, endPlace, bodyPlaces, fileRefusal};
+ghost use Rattle.stepdown.specs.Refusals.{firstRefusal};
+ghost use Rattle.trial.specs.Refusals.{has};
+ghost use Rattle.trialfile.specs.Words.{wordsOf, word};
+ghost use Rattle.trialfile.specs.Files.{badLength, levelPlace, shapePlace, offerPlace, offerPlaces, earlierCodes, differencePlace, differencePlaces, endPlace, bodyPlaces, fileRefusal};
 
+// the condition of 1
 fn bad_length(file: &[u8]) -> bool
     ensures { λ r. ⌜ r ≡ badLength (now (file .entry)) ⌝ }
 {
@@ -22,68 +23,7 @@ fn bad_length(file: &[u8]) -> bool
     file.len() > 652
 }
 
-fn bad_level(a: usize, b: usize) -> bool
-    ensures { λ r. ⌜ r ≡ badLevel a b ⌝ }
-{
-    if a == 0 {
-        return true;
-    }
-    if b == 0 {
-        return true;
-    }
-    if b <= a {
-        return true;
-    }
-    b > 16383
-}
-
-fn bad_counts(k: usize, offers: usize, pairs: usize) -> bool
-    ensures { λ r. ⌜ r ≡ badCounts (shaped k offers pairs) ⌝ }
-{
-    if pairs < 1 {
-        return true;
-    }
-    if pairs > 9 {
-        return true;
-    }
-    if offers < 1 {
-        return true;
-    }
-    if offers > 16 {
-        return true;
-    }
-    if k < 1 {
-        return true;
-    }
-    if k > 4 {
-        return true;
-    }
-    offers < k
-}
-
-// the powers of ten that printed digits reach
-const POWERS: [u32; 8] = [1, 10, 100, 1000, 10000, 100000, 1000000, 10000000];
-
-fn bad_digits(code: u32, digits: usize) -> bool
-    ensures { λ r. ⌜ r ≡ badDigits code digits ⌝ }
-{
-    if digits < 1 {
-        return true;
-    }
-    if digits > 7 {
-        return true;
-    }
-    POWERS[digits] <= code
-}
-
-// In a file only -134,217,728 is outside the range.
-fn bad_difference(w: u32) -> bool
-    ensures { λ r. ⌜ r ≡ badDifference (differenceOf w) ⌝ }
-{
-    w % 268435456 == 134217728
-}
-
-// whether one of the first n offers has the number
+// the condition of 6: one of the first n offers has the number
 fn seen(file: &[u8], n: usize, code: u32) -> bool
     requires { ⌜ n ≤ 16 ⌝ }
     ensures { λ r. ⌜ r ≡ has code (earlierCodes (wordsOf (now (file .entry))) n) ⌝ }
@@ -99,23 +39,13 @@ fn seen(file: &[u8], n: usize, code: u32) -> bool
     false
 }
 
-// the number where the condition holds, or else the refusal after it
-fn first_of(holds: bool, number: u32, after: u32) -> u32
-    ensures { λ r. ⌜ r ≡ cond holds number after ⌝ }
-{
-    if holds {
-        return number;
-    }
-    after
-}
-
 // of the level: the kind before the value
 fn judge_level(file: &[u8]) -> u32
     ensures { λ r. ⌜ r ≡ firstRefusal (levelPlace (word (wordsOf (now (file .entry))) 0)) ⌝ }
 {
     let w = word::word_at(file, 0);
     let other = w / 268435456 != 1;
-    let bad = bad_level((w / 16384 % 16384) as usize, (w % 16384) as usize);
+    let bad = stepdown::bad_level((w / 16384 % 16384) as usize, (w % 16384) as usize);
     let three = first_of(bad, 3, 0);
     first_of(other, 2, three)
 }
@@ -126,7 +56,7 @@ fn judge_shape(file: &[u8]) -> u32
 {
     let w = word::word_at(file, 1);
     let other = w / 268435456 != 2;
-    let counts = bad_counts(
+    let counts = trial::bad_counts(
         (w / 65536 % 256) as usize,
         (w / 256 % 256) as usize,
         (w % 256) as usize,
@@ -145,7 +75,7 @@ fn judge_offer(file: &[u8], i: usize) -> u32
     let w = word::word_at(file, i + 2);
     let code = w % 16777216;
     let other = w / 268435456 != 3;
-    let unprintable = bad_digits(code, (w / 16777216 % 16) as usize);
+    let unprintable = trial::bad_digits(code, (w / 16777216 % 16) as usize);
     let repeated = seen(file, i, code);
     let six = first_of(repeated, 6, 0);
     let five = first_of(unprintable, 5, six);
@@ -173,7 +103,7 @@ fn judge_difference(w: u32) -> u32
     ensures { λ r. ⌜ r ≡ firstRefusal (differencePlace w) ⌝ }
 {
     let other = w / 268435456 != 4;
-    let beyond = bad_difference(w);
+    let beyond = trial::bad_difference(word::difference_of(w));
     let seven = first_of(beyond, 7, 0);
     first_of(other, 2, seven)
 }

@@ -1,4 +1,4 @@
--- `trial::checks::bad_digits` meets its contract.
+-- `trial::checks::bad_digits` meets its contract: two conditions, one after the other.
 use native.Mathlib.Omega.{arith}
 use borrow.Author.Needs.{needs}
 use Rattle.trial.proofs.Conditions.{digits-most, digits-outside, digits-few}
@@ -12,7 +12,9 @@ returns : tie.Need-returns
 returns c = digits-outside _ _ _ (c .before .outside .ensures) (c .if1 .taken)
 
 mul-result : tie.Need-mul-result
-mul-result c = search needs
+mul-result c =
+    let most = digits-most (c .before .before .args .digits) (c .before .outside .result) (c .before .outside .ensures) (c .if1 .left) in
+    record { fits = omega arith }
 
 array-read-result : tie.Need-array-read-result
 array-read-result c = omega (arith, digits-most (c .before .before .args .digits) (c .before .outside .result) (c .before .outside .ensures) (c .if1 .left))

@@ -30,6 +30,9 @@ array-read-code c = search needs
 array-read-bad-digits : tie.Need-array-read-bad-digits Inv-loop μ-loop
 array-read-bad-digits c = search needs
 
+cast-bad-digits : tie.Need-cast-bad-digits Inv-loop μ-loop
+cast-bad-digits c = search needs
+
 bad-digits-requires : tie.Need-bad-digits-requires Inv-loop μ-loop
 bad-digits-requires c κs = search needs
 
@@ -39,12 +42,15 @@ earlier-requires c κs = search needs
 first-of-requires : tie.Need-first-of-requires Inv-loop μ-loop
 first-of-requires c κs = search needs
 
+first-of-requires-2 : tie.Need-first-of-requires-2 Inv-loop μ-loop
+first-of-requires-2 c κs = search needs
+
 returns : tie.Need-returns Inv-loop μ-loop
 returns c =
-    let q = c .before .before in
+    let q = c .before .before .before in
     let d = q .before in
     let l = d .before .before .loop .inv in
-    sym (l .4 ∙ offers-refused _ _ _ _ (d .before .loop-test .taken) (l .2) (l .3) _ _ _ (d .bad-digits .ensures) (q .earlier .ensures) (c .before .first-of .ensures) (c .if1 .taken))
+    sym (l .4 ∙ offers-refused _ _ _ _ (d .before .loop-test .taken) (l .2) (l .3) _ _ _ _ (d .bad-digits .ensures) (q .earlier .ensures) (c .before .before .first-of .ensures) (c .before .first-of2 .ensures) (c .if1 .taken))
 
 add-i : tie.Need-add-i Inv-loop μ-loop
 add-i c = search needs
@@ -54,14 +60,14 @@ loop-less c = search needs
 
 loop-again : tie.Need-loop-again Inv-loop μ-loop
 loop-again c =
-    let q = c .before .before in
+    let q = c .before .before .before in
     let d = q .before in
     let l = d .before .before .loop .inv in (
       omega arith,
       l .1,
       l .2,
       l .3,
-      l .4 ∙ offers-turn _ _ _ _ (d .before .loop-test .taken) (l .2) (l .3) _ _ _ (d .bad-digits .ensures) (q .earlier .ensures) (c .before .first-of .ensures) (c .if1 .left),
+      l .4 ∙ offers-turn _ _ _ _ (d .before .loop-test .taken) (l .2) (l .3) _ _ _ _ (d .bad-digits .ensures) (q .earlier .ensures) (c .before .before .first-of .ensures) (c .before .first-of2 .ensures) (c .if1 .left),
     )
 
 returns-2 : tie.Need-returns-2 Inv-loop μ-loop
@@ -77,9 +83,11 @@ offers-spec =
     mul-code
     array-read-code
     array-read-bad-digits
+    cast-bad-digits
     bad-digits-requires
     earlier-requires
     first-of-requires
+    first-of-requires-2
     returns
     add-i
     loop-less

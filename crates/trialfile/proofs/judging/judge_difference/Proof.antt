@@ -4,6 +4,9 @@ use borrow.Author.Needs.{needs}
 use Rattle.trialfile.proofs.judging.judge_difference.Statement.{statement}
 use Rattle.trialfile.proofs.judging.judge_difference.Tie as tie
 
+difference-of-requires : tie.Need-difference-of-requires
+difference-of-requires c κs = search needs
+
 bad-difference-requires : tie.Need-bad-difference-requires
 bad-difference-requires c κs = search needs
 
@@ -15,8 +18,15 @@ first-of-requires-2 c κs = search needs
 
 returns : tie.Need-returns
 returns c =
-    difference-judged _ _ _ _ (c .before .before .bad-difference .ensures) (c .before .first-of .ensures) (c .first-of2 .ensures)
+    let b = c .before .before in
+    difference-judged _ _ _ _ _ (b .before .difference-of .ensures) (b .bad-difference .ensures) (c .before .first-of .ensures) (c .first-of2 .ensures)
 
 pub judge-difference-spec : {M : Type 1} → statement M
 judge-difference-spec =
-    tie.close (tie.spec bad-difference-requires first-of-requires first-of-requires-2 returns)
+    tie.close
+    (tie.spec
+    difference-of-requires
+    bad-difference-requires
+    first-of-requires
+    first-of-requires-2
+    returns)
