@@ -3,7 +3,7 @@
 --   1 Total        refused-exactly, accepted-exactly; the orders; the numbers that are answered; what a refused call leaves unchanged
 --   2 Exact        full runs, steps, the file and its trial, the report
 --   3 Controlled   trials, tables
-use Prim.Native.Nat.{ℕ, _*_, _≤_, _<_}
+use Prim.Native.Nat.{ℕ, _+_, _*_, _≤_, _<_}
 use mathlib.Core.Path.{_≡_, refl, sym, ap, _∙_}
 use mathlib.Core.Bool.{Bool, false, not}
 use mathlib.Core.List.{List, [], _∷_, _++_}
@@ -39,6 +39,7 @@ use Rattle.rendering.specs.Renderings.{renderRefusal, renderingOf, afterRenderi
 use Rattle.rendering.proofs.Lengths.{longestReport}
 use Rattle.rendering.proofs.Rendered as rendered
 use Rattle.rendering.proofs.Printing as printing
+use Rattle.host.specs.Calls.{trialVerdictsRefusal, trialVerdictsAnswer, trialVerdictsBuffer, tableVerdictsRefusal, tableVerdictsAnswer, tableVerdictsWork, tableVerdictsBuffer}
 use Rattle.claims.specs.Firsts.{condition, First}
 use Rattle.claims.proofs.Deciding.{first-decides, decided-first, none-decides, none-each, kept, taken}
 
@@ -60,7 +61,7 @@ unfolding fileRefusal
 file-order bytes = refl
 
 -- a trial given as a record: 4, 3, then offers, then differences
-pub record-order : (t : Trial) → trialRefusal t ≡ firstRefusal ((badCounts t, 4) ∷ (badLevel (t .a) (t .b), 3) ∷ (offerChecks [] (take (t .offers) (t .codes)) (take (t .offers) (t .digits)) ++ differenceChecks (take (t .offers * t .pairs) (t .differences))))
+pub record-order : (t : Trial) → trialRefusal t ≡ firstRefusal ((badCounts (t .k) (t .offers) (t .pairs), 4) ∷ (badLevel (t .a) (t .b), 3) ∷ (offerChecks [] (take (t .offers) (t .codes)) (take (t .offers) (t .digits)) ++ differenceChecks (take (t .offers * t .pairs) (t .differences))))
 unfolding trialRefusal
 record-order t = refl
 
@@ -119,6 +120,19 @@ module _ (t : Trial) where
 pub render-unchanged : (bytes buf : List ℕ) → (renderRefusal bytes (length buf) ≡ 0 → ⊥) → afterRendering bytes buf ≡ buf
 unfolding afterRendering
 render-unchanged bytes buf h = kept _ _ buf h
+
+-- ---- the calls for C: 100 plus the refusal number, and nothing is written
+
+pub c-trial-refused : (file verdicts : List ℕ) → (trialVerdictsRefusal file (length verdicts) ≡ 0 → ⊥)
+    → (trialVerdictsAnswer file (length verdicts) ≡ 100 + trialVerdictsRefusal file (length verdicts)) × (trialVerdictsBuffer file verdicts ≡ verdicts)
+unfolding trialVerdictsAnswer trialVerdictsBuffer
+c-trial-refused file verdicts h = (kept _ _ _ h, kept _ _ verdicts h)
+
+pub c-table-refused : (t : List Float) (rows columns k a b observed : ℕ) (work : List Float) (verdicts : List ℕ) → (tableVerdictsRefusal t rows columns k a b observed (length work) (length verdicts) ≡ 0 → ⊥)
+    → (tableVerdictsAnswer t rows columns k a b observed (length work) (length verdicts) ≡ 100 + tableVerdictsRefusal t rows columns k a b observed (length work) (length verdicts))
+    × (tableVerdictsWork t rows columns k a b observed work (length verdicts) ≡ work) × (tableVerdictsBuffer t rows columns k a b observed (length work) verdicts ≡ verdicts)
+unfolding tableVerdictsAnswer tableVerdictsWork tableVerdictsBuffer
+c-table-refused t rows columns k a b observed work verdicts h = (kept _ _ _ h, kept _ _ work h, kept _ _ verdicts h)
 
 -- ==== 2. Exact ====
 
