@@ -1,6 +1,9 @@
-// A table looked at through a view of the lent values. Each function over a view takes it apart and puts the same question
-// with the slice and the numbers, to a function that says the same of them.
+// A table looked at through a view of the lent values. The functions over a view are few and thin: each takes it apart and puts
+// the same question with the slice and the numbers, to a function whose contract says the same of them.
+use stepdown::FullRun;
 ghost use mathlib.Core.Path.{_≡_};
+ghost use lib.ListN.{length};
+ghost use Rattle.stepdown.specs.Answers.{fullAnswer, fullWork};
 ghost use Rattle.view.specs.Entries.{entryOf};
 
 // A table of lent values, row after row.
@@ -16,7 +19,7 @@ pub enum Entry {
     Outside,
 }
 
-// The value at a row and a column, both from 0. The product is made only after a quotient has shown that the slice has the place.
+// The value at a row and a column, both from 0. A quotient shows that the slice has the place before the product is made, which then fits.
 pub fn entry_at(values: &[f64], rows: usize, columns: usize, row: usize, column: usize) -> Entry
     ensures { λ r. ⌜ r ≡ entryOf (now (values .entry)) rows columns row column ⌝ }
 {
@@ -34,4 +37,19 @@ pub fn entry_at(values: &[f64], rows: usize, columns: usize, row: usize, column:
     }
     let at = row * columns + column;
     Entry::Value(values[at])
+}
+
+// The full run of a view's table.
+pub fn full_run<'a, 'b>(
+    v: View<'a>,
+    work: &'b mut [f64],
+    k: usize,
+    a: usize,
+    b: usize,
+    observed: usize,
+) -> FullRun
+    ensures { λ r. ⌜ r ≡ fullAnswer (now (v .entry .values)) (v .entry .rows) (v .entry .columns) k a b observed (length (now (work .entry))) ⌝ }
+    ensures { λ r. ⌜ now (work .exit) ≡ fullWork (now (v .entry .values)) (v .entry .rows) (v .entry .columns) k a b observed (now (work .entry)) ⌝ }
+{
+    stepdown::full_run(v.values, work, v.rows, v.columns, k, a, b, observed)
 }
