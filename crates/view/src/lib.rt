@@ -1,9 +1,11 @@
 // A table looked at through a view of the lent values. The functions over a view are few and thin: each takes it apart and puts
 // the same question with the slice and the numbers, to a function whose contract says the same of them.
+use stepdown::Beginning;
 use stepdown::FullRun;
+use stepdown::Run;
 ghost use mathlib.Core.Path.{_≡_};
 ghost use lib.ListN.{length};
-ghost use Rattle.stepdown.specs.Answers.{fullAnswer, fullWork};
+ghost use Rattle.stepdown.specs.Answers.{beginAnswer, fullAnswer, fullWork};
 ghost use Rattle.view.specs.Entries.{entryOf};
 
 // A table of lent values, row after row.
@@ -52,4 +54,11 @@ pub fn full_run<'a, 'b>(
     ensures { λ r. ⌜ now (work .exit) ≡ fullWork (now (v .entry .values)) (v .entry .rows) (v .entry .columns) k a b observed (now (work .entry)) ⌝ }
 {
     stepdown::full_run(v.values, work, v.rows, v.columns, k, a, b, observed)
+}
+
+// A run before step 1, with the sizes of a view. The values are looked at by its steps alone.
+pub fn begin<'a>(v: View<'a>, k: usize, a: usize, b: usize, observed: usize) -> Beginning
+    ensures { λ r. ⌜ r ≡ beginAnswer (v .entry .rows) (v .entry .columns) k a b observed ⌝ }
+{
+    Run::begin(v.rows, v.columns, k, a, b, observed)
 }
