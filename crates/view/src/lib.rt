@@ -3,9 +3,10 @@
 use stepdown::Beginning;
 use stepdown::FullRun;
 use stepdown::Run;
+use stepdown::StepAnswer;
 ghost use mathlib.Core.Path.{_≡_};
 ghost use lib.ListN.{length};
-ghost use Rattle.stepdown.specs.Answers.{beginAnswer, fullAnswer, fullWork};
+ghost use Rattle.stepdown.specs.Answers.{beginAnswer, stepAnswer, stepWork, fullAnswer, fullWork};
 ghost use Rattle.view.specs.Entries.{entryOf};
 
 // A table of lent values, row after row.
@@ -61,4 +62,14 @@ pub fn begin<'a>(v: View<'a>, k: usize, a: usize, b: usize, observed: usize) -> 
     ensures { λ r. ⌜ r ≡ beginAnswer (v .entry .rows) (v .entry .columns) k a b observed ⌝ }
 {
     Run::begin(v.rows, v.columns, k, a, b, observed)
+}
+
+// The next step of a run over a view's values. A run holds the sizes it was begun with, and document 01 checks the table's length
+// against those (9). So the view's own rows and columns are not looked at: no refusal names a view whose sizes are not the run's,
+// and a number for it here would make the answer another than that of the same step with the slice alone.
+pub fn step<'a, 'b>(v: View<'a>, run: Run, work: &'b mut [f64]) -> StepAnswer
+    ensures { λ r. ⌜ r ≡ stepAnswer (now (v .entry .values)) run (length (now (work .entry))) ⌝ }
+    ensures { λ r. ⌜ now (work .exit) ≡ stepWork (now (v .entry .values)) run (now (work .entry)) ⌝ }
+{
+    run.step(v.values, work)
 }
