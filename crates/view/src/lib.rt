@@ -73,3 +73,10 @@ pub fn step<'a, 'b>(v: View<'a>, run: Run, work: &'b mut [f64]) -> StepAnswer
 {
     run.step(v.values, work)
 }
+
+// The value at a place of a view.
+pub fn look<'a>(v: View<'a>, row: usize, column: usize) -> Entry
+    ensures { λ r. ⌜ r ≡ entryOf (now (v .entry .values)) (v .entry .rows) (v .entry .columns) row column ⌝ }
+{
+    entry_at(v.values, v.rows, v.columns, row, column)
+}
