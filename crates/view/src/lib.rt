@@ -80,3 +80,31 @@ pub fn look<'a>(v: View<'a>, row: usize, column: usize) -> Entry
 {
     entry_at(v.values, v.rows, v.columns, row, column)
 }
+
+// The full run of lent values, through a view of them. Its parameters are plain, so a caller is proved as any other function is.
+pub fn full_run_at(
+    values: &[f64],
+    work: &mut [f64],
+    rows: usize,
+    columns: usize,
+    k: usize,
+    a: usize,
+    b: usize,
+    observed: usize,
+) -> FullRun
+    ensures { λ r. ⌜ r ≡ fullAnswer (now (values .entry)) rows columns k a b observed (length (now (work .entry))) ⌝ }
+    ensures { λ r. ⌜ now (work .exit) ≡ fullWork (now (values .entry)) rows columns k a b observed (now (work .entry)) ⌝ }
+{
+    full_run(
+        View {
+            values,
+            rows,
+            columns,
+        },
+        work,
+        k,
+        a,
+        b,
+        observed,
+    )
+}
