@@ -9,6 +9,6 @@ use lib.Ieee.{Float, nan}
 use Rattle.view.specs.declared.Entry.{Entry}
 use Rattle.view.specs.declared.Entry.the-variants.{Value, Outside}
 
-abbrev pub entryOf : List Float → ℕ → ℕ → ℕ → ℕ → Entry
+unfoldable pub entryOf : List Float → ℕ → ℕ → ℕ → ℕ → Entry
 entryOf xs rows columns row column =
     cond (ltb row rows && (ltb column columns && ltb (row * columns + column) (length xs))) (Value (getD xs (row * columns + column) nan)) Outside

@@ -1,23 +1,18 @@
--- `entry_at` meets its contract. Each answer rewrites with the tests that led to it.
-use Prim.Native.Nat.{_*_}
+-- `entry_at` meets its contract. Each answer is a case of the definition, by the tests that led to it.
 use native.Mathlib.Omega.{arith}
 use borrow.Author.Needs.{needs}
-use borrow.Author.Tests.{le-ltb, lt-ltb}
-use Rattle.view.proofs.Places.{has-place, lacks-place, short}
+use Rattle.view.proofs.Places.{value-is, outside-is, has-place, lacks-place}
 use Rattle.view.proofs.entry_at.Statement.{statement}
 use Rattle.view.proofs.entry_at.Tie as tie
 
 returns : tie.Need-returns
-returns c = simp (le-ltb _ _ (c .if1 .taken))
+returns c = outside-is _ _ _ _ _ (λ r _ _. omega (arith, r, c .if1 .taken))
 
 returns-2 : tie.Need-returns-2
-returns-2 c = simp (lt-ltb _ _ (c .before .if1 .left), le-ltb _ _ (c .if2 .taken))
+returns-2 c = outside-is _ _ _ _ _ (λ _ s _. omega (arith, s, c .if2 .taken))
 
 returns-3 : tie.Need-returns-3
-returns-3 c =
-    let t = c .before in
-    let a = t .before .before .args in
-    simp (lt-ltb _ _ (t .before .if1 .left), lt-ltb _ _ (t .if2 .left), le-ltb _ _ (short (a .row * a .columns) _ _ (c .if3 .taken)))
+returns-3 c = outside-is _ _ _ _ _ (λ _ _ l. omega (arith, l, c .if3 .taken))
 
 sub-if4 : tie.Need-sub-if4
 sub-if4 c = search needs
@@ -29,9 +24,7 @@ div-if4 : tie.Need-div-if4
 div-if4 c = search needs
 
 returns-4 : tie.Need-returns-4
-returns-4 c =
-    let t = c .before .before in
-    simp (lt-ltb _ _ (t .before .if1 .left), lt-ltb _ _ (t .if2 .left), le-ltb _ _ (lacks-place _ _ _ _ (t .if2 .left) (c .if4 .taken)))
+returns-4 c = outside-is _ _ _ _ _ (λ _ s l. omega (arith, l, lacks-place _ _ _ _ s (c .if4 .taken)))
 
 mul-at : tie.Need-mul-at
 mul-at c = let t = c .before in omega (arith, has-place _ _ _ _ (t .before .if2 .left) (t .if3 .left) (c .if4 .left))
@@ -43,12 +36,12 @@ mul-t9 : tie.Need-mul-t9
 mul-t9 c = let t = c .before in omega (arith, has-place _ _ _ _ (t .before .if2 .left) (t .if3 .left) (c .if4 .left))
 
 shared-slice-read-t13 : tie.Need-shared-slice-read-t13
-shared-slice-read-t13 c = let t = c .before .before in omega (arith, has-place _ _ _ _ (t .before .if2 .left) (t .if3 .left) (c .before .if4 .left))
+shared-slice-read-t13 c = let t = c .before .before in has-place _ _ _ _ (t .before .if2 .left) (t .if3 .left) (c .before .if4 .left)
 
 returns-5 : tie.Need-returns-5
 returns-5 c =
     let t = c .before .before in
-    simp (lt-ltb _ _ (t .before .before .if1 .left), lt-ltb _ _ (t .before .if2 .left), lt-ltb _ _ (has-place _ _ _ _ (t .before .if2 .left) (t .if3 .left) (c .before .if4 .left)))
+    value-is _ _ _ _ _ (t .before .before .if1 .left) (t .before .if2 .left) (has-place _ _ _ _ (t .before .if2 .left) (t .if3 .left) (c .before .if4 .left))
 
 pub entry-at-spec : {M : Type 1} → statement M
 entry-at-spec =
