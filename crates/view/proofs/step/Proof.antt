@@ -7,7 +7,6 @@ use lib.ListN.{length}
 use lib.Ieee.{Float}
 use mir.Syntax.{named}
 use mir.Val.{WT}
-use base.Logic.{SProp}
 use denote.Ref.{RefT}
 use denote.Slice.{slice-vals, mut-slice-tells}
 use denote.Enum.Laws as EL
@@ -22,7 +21,7 @@ use Rattle.stepdown.proofs.Run.step.Symbol as under-def
 use Rattle.stepdown.proofs.Run.step.Symbol.{name as #stepdown·Run·step}
 use Rattle.stepdown.proofs.Run.step.Met as under-thm
 use Rattle.view.specs.declared.View.{View}
-use Rattle.view.proofs.Thin.{URA, Val, ent, Memory, Routine, Heap, Calls, Loops, WpFn, Atoms, Lfts, Shares, Fun, givenOf, Given, FmC, Is, Are, Ises, Contract, Triple, Args, Vals, Lasts, Stays, f64, yes, plain, word, typesAt, flat, owns, onEntry, toks}
+use Rattle.view.proofs.Thin.{URA, Val, SProp, ent, id⊢, Memory, Routine, Heap, Calls, Loops, WpFn, Atoms, Lfts, Shares, Fun, givenOf, Given, FmC, Is, Are, Ises, Contract, Triple, Args, Vals, Lasts, atExit, Stays, f64, yes, plain, word, typesAt, flat, owns, onEntry, toks}
 use Rattle.view.proofs.Thin.{‵, raw, ⋆, _$_, _∵_, !, qed, by, move, keep, drop, use1, join, fsplit, fjoin, frame, done, nothing, peeks, shows}
 use Rattle.view.proofs.Thin.{agg, whole, sub, look-in, look, init, stop, hop, fld, from, load, addr, of-opd, and-then, no-more, assigns, land, returns, enter, alloc1, alloc0, params1, pass1, pass0, free0, calls-at}
 use Rattle.view.proofs.Thin.{stay-dropped, gave-slice, walkOf, goes-dropped, goes-gave-slice, contractOf, back, comes-back, last-list, leaves, lets-go, closes}
@@ -66,10 +65,20 @@ module _ {M : Type 1} (𝓤 : URA M) (H : Heap 𝓤) (A : Atoms 𝓤) (W : Given
         -- [the run; the buffer; the values; the tokens]
         move ! (2 ∷ 1 ∷ []) $ fjoin ! $ move ! (1 ∷ 0 ∷ []) $ fjoin ! $ move ! (1 ∷ 0 ∷ []) $ join ! $ frame ! $ done !
 
+    -- what that one ensures is what this one ensures
+    abbrev last : Lasts under.ended κs at → Lasts over.ended κs a
+    last zs = (tt, (tt, (zs .1 .1 .0, tt)))
+
+    abbrev Said : StepAnswer → Lasts under.ended κs at → SProp 𝓤
+    Said r zs = under.clauses 𝓤 H A mem run κs at .ensures tt r (atExit under.ended κs at zs)
+
+    same : (r : StepAnswer) (zs : Lasts under.ended κs at) → ent 𝓤 (Said r zs) (over.clauses 𝓤 H A mem run κs a .ensures tt r (atExit over.ended κs a (last zs)))
+    same r zs = id⊢ 𝓤 (Said r zs)
+
     exits : (r : StepAnswer) (u : Val) (zs : Lasts under.ended κs at) → ent 𝓤 (⋆ 𝓤 H A (back 𝓤 H A under.ended (under.clauses 𝓤 H A mem run) to u r zs)) (Post u)
     exits r u zs =
         qed W (back 𝓤 H A under.ended (under.clauses 𝓤 H A mem run) to u r zs) ∵
-        move ! (2 ∷ []) $ fsplit ! $ drop ! $ last-list ! 0 (λ l. nothing ! $ fjoin ! $ by ! (leaves 𝓤 H A W over.ended stayed (over.clauses 𝓤 H A mem run) ((κs, qs, tt, a, vals), tt) u r (tt, (tt, (zs .1 .1 .0, tt))) (tt, (tt, (l, tt)))))
+        move ! (2 ∷ []) $ fsplit ! $ drop ! $ last-list ! 0 (λ l. nothing ! $ fjoin ! $ by ! (leaves 𝓤 H A W over.ended stayed (over.clauses 𝓤 H A mem run) ((κs, qs, tt, a, vals), tt) u r (last zs) (tt, (tt, (l, tt))) (Said r zs) (same r zs)))
 
     module _ (C : Calls 𝓤 H) (Λ : Loops 𝓤 H) (fm : FmC 𝓤 H (W .laws) C) (known : Triple 𝓤 (C #stepdown·Run·step) Under) where
       walk : Are (typesAt (over.signature .params) κs) (Ises (typesAt (over.signature .params) κs)) a vals → ent 𝓤 (onEntry 𝓤 H A over.signature κs qs a vals) (WpFn 𝓤 H C Λ code.function (flat (typesAt (over.signature .params) κs) vals) Post)
