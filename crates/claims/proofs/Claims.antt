@@ -1,16 +1,16 @@
 -- The promises of the whole, on one page. Contracts say that each public function answers what a definition gives, for every input;
 -- the theorems below are about those definitions, and each follows from the parts in a line or two. docs/CLAIMS.md maps document 01 to both.
 --   1 Total        refused-exactly, accepted-exactly; the orders; the numbers that are answered; what a refused call leaves unchanged
---   2 Exact        full runs, steps, the file and its trial, the report
+--   2 Exact        full runs, steps, the view, the file and its trial, the report
 --   3 Controlled   trials, tables
 use Prim.Native.Nat.{ℕ, _+_, _*_, _≤_, _<_}
 use mathlib.Core.Path.{_≡_, refl, sym, ap, _∙_}
 use mathlib.Core.Bool.{Bool, false, not}
 use mathlib.Core.List.{List, [], _∷_, _++_}
 use mathlib.Core.Logic.{_↔_}
-use lib.ListN.{length, take}
+use lib.ListN.{length, getD, take}
 use lib.Dec.{T, ltb, leb, eqb}
-use lib.Ieee.{Float, binary64, ofInt}
+use lib.Ieee.{Float, nan, binary64, ofInt}
 use Rattle.stepdown.specs.Tables.{rowsOf, allowance}
 use Rattle.stepdown.specs.Runs.{after, recordOf, tableRun}
 use Rattle.stepdown.specs.Refusals.{Checks, firstRefusal, badShape, badLevel, badValue, spoiled, tableRefusal, tableRunRefusal, beginRefusal, stepRefusal, tableChecks, tooShort}
@@ -40,6 +40,9 @@ use Rattle.rendering.proofs.Lengths.{longestReport}
 use Rattle.rendering.proofs.Rendered as rendered
 use Rattle.rendering.proofs.Printing as printing
 use Rattle.host.specs.Calls.{trialVerdictsRefusal, trialVerdictsAnswer, trialVerdictsBuffer, tableVerdictsRefusal, tableVerdictsAnswer, tableVerdictsWork, tableVerdictsBuffer}
+use Rattle.view.specs.Entries.{entryOf}
+use Rattle.view.specs.declared.Entry.the-variants.{Value}
+use Rattle.view.proofs.Places as places
 use Rattle.claims.specs.Firsts.{condition, First}
 use Rattle.claims.proofs.Deciding.{first-decides, decided-first, none-decides, none-each, kept, taken}
 
@@ -150,6 +153,10 @@ pub step-taken : (t : List Float) (r : Run) (places : ℕ) → stepRefusal t r p
     → stepAnswer t r places ≡ Stepped (after (everyColumn (r .columns)) (rowsOf (r .rows) (r .columns) t) r) (recordOf (everyColumn (r .columns)) (rowsOf (r .rows) (r .columns) t) r)
 unfolding stepAnswer
 step-taken t r places h = taken _ _ _ h
+
+-- a view of a whole table shows the values that the method looks at
+pub view-entry : (xs : List Float) (rows columns row column : ℕ) → length xs ≡ rows * columns → row < rows → column < columns → entryOf xs rows columns row column ≡ Value (getD (getD (rowsOf rows columns xs) row []) column nan)
+view-entry = places.row-value
 
 -- a trial written as a file reads back as the same trial
 pub write-read : (t : Trial) → Typed t → trialRefusal t ≡ 0 → readingOf (fileOf t) ≡ answered 0 (trimmed t)
