@@ -5,6 +5,7 @@ use super::Step;
 use super::bits;
 use super::putback;
 use super::quantile;
+use super::quantile::Figures;
 ghost use mathlib.Core.Path.{_≡_};
 ghost use Prim.Native.Nat.{_≤_};
 ghost use lib.ListN.{length, drop};
@@ -32,20 +33,17 @@ fn bar(r: Run, table: &[f64], work: &mut [f64]) -> f64
     ensures { λ c. ⌜ (c ≡ barOf (everyColumn (r .columns)) (rowsOf (r .rows) (r .columns) (now (table .entry))) r) × (drop (r .rows) (now (work .exit)) ≡ drop (r .rows) (now (work .entry))) ⌝ }
 {
     let e = r.rows * r.a / r.b;
+    let f = Figures {
+        rows: r.rows,
+        columns: r.columns,
+        k: r.k,
+        e,
+    };
     let all = bits::all_of(r.columns);
     if r.steps == 0 {
-        return quantile::critical(table, work, r.rows, r.columns, r.k, e, all);
+        return quantile::critical(table, work, f, all);
     }
-    putback::put_back(
-        table,
-        work,
-        r.rows,
-        r.columns,
-        r.k,
-        e,
-        all - r.rejected,
-        r.rejected,
-    )
+    putback::put_back(table, work, f, all - r.rejected, r.rejected)
 }
 
 // Whether a step that rejected the columns of `new` ends the run: nothing new, fewer than k in all, or none left.

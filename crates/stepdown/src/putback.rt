@@ -1,6 +1,7 @@
 // The critical value of a later step: the largest c(A with I) over the subsets I of the rejected columns with k - 1 members.
 use super::bits;
 use super::quantile;
+use super::quantile::Figures;
 ghost use mathlib.Core.Path.{_≡_};
 ghost use mathlib.Core.Bool.{true, false};
 ghost use mathlib.Core.List.{map, _++_};
@@ -16,21 +17,18 @@ ghost use Rattle.stepdown.specs.Internal.{Ready, Walk, larger, bestOf};
 fn walk(
     table: &[f64],
     work: &mut [f64],
-    rows: usize,
-    cols: usize,
-    k: usize,
-    e: usize,
+    f: Figures,
     set: u32,
     rest: u32,
     from: usize,
     left: usize,
     best: f64,
 ) -> f64
-    requires { ⌜ Ready (now table) rows cols k × (rows ≤ length (now work)) × (e < rows) × Walk cols k set rest from left ⌝ }
-    ensures { λ r. ⌜ (r ≡ bestOf best (map (λ I. criticalValue k e (rowsOf rows cols (now (table .entry))) (columnsOf cols set ∪ (replicate from false ++ I))) (choose left (columnsOf (cols - from) rest)))) × (drop rows (now (work .exit)) ≡ drop rows (now (work .entry))) ⌝ }
+    requires { ⌜ Ready (now table) (f .rows) (f .columns) (f .k) × (f .rows ≤ length (now work)) × (f .e < f .rows) × Walk (f .columns) (f .k) set rest from left ⌝ }
+    ensures { λ r. ⌜ (r ≡ bestOf best (map (λ I. criticalValue (f .k) (f .e) (rowsOf (f .rows) (f .columns) (now (table .entry))) (columnsOf (f .columns) set ∪ (replicate from false ++ I))) (choose left (columnsOf (f .columns - from) rest)))) × (drop (f .rows) (now (work .exit)) ≡ drop (f .rows) (now (work .entry))) ⌝ }
 {
     if left == 0 {
-        let c = quantile::critical(table, work, rows, cols, k, e, set);
+        let c = quantile::critical(table, work, f, set);
         if best < c {
             return c;
         }
@@ -41,73 +39,23 @@ fn walk(
     }
     if rest % 2 == 1 {
         let chosen = set + bits::bit(from);
-        let b = walk(
-            table,
-            work,
-            rows,
-            cols,
-            k,
-            e,
-            chosen,
-            rest / 2,
-            from + 1,
-            left - 1,
-            best,
-        );
-        return walk(
-            table,
-            work,
-            rows,
-            cols,
-            k,
-            e,
-            set,
-            rest / 2,
-            from + 1,
-            left,
-            b,
-        );
+        let b = walk(table, work, f, chosen, rest / 2, from + 1, left - 1, best);
+        return walk(table, work, f, set, rest / 2, from + 1, left, b);
     }
-    walk(
-        table,
-        work,
-        rows,
-        cols,
-        k,
-        e,
-        set,
-        rest / 2,
-        from + 1,
-        left,
-        best,
-    )
+    walk(table, work, f, set, rest / 2, from + 1, left, best)
 }
 
 // The largest critical value of the columns left with k - 1 of the rejected ones put back.
 pub(crate) fn put_back(
     table: &[f64],
     work: &mut [f64],
-    rows: usize,
-    cols: usize,
-    k: usize,
-    e: usize,
+    f: Figures,
     remaining: u32,
     rejected: u32,
 ) -> f64
-    requires { ⌜ Ready (now table) rows cols k × (rows ≤ length (now work)) × (e < rows) × Walk cols k remaining rejected 0 (k - 1) × (k - 1 ≤ size (columnsOf cols rejected)) ⌝ }
-    ensures { λ r. ⌜ (r ≡ putBack k e (rowsOf rows cols (now (table .entry))) (columnsOf cols remaining) (columnsOf cols rejected)) × (drop rows (now (work .exit)) ≡ drop rows (now (work .entry))) ⌝ }
+    requires { ⌜ Ready (now table) (f .rows) (f .columns) (f .k) × (f .rows ≤ length (now work)) × (f .e < f .rows) × Walk (f .columns) (f .k) remaining rejected 0 (f .k - 1) × (f .k - 1 ≤ size (columnsOf (f .columns) rejected)) ⌝ }
+    ensures { λ r. ⌜ (r ≡ putBack (f .k) (f .e) (rowsOf (f .rows) (f .columns) (now (table .entry))) (columnsOf (f .columns) remaining) (columnsOf (f .columns) rejected)) × (drop (f .rows) (now (work .exit)) ≡ drop (f .rows) (now (work .entry))) ⌝ }
 {
-    walk(
-        table,
-        work,
-        rows,
-        cols,
-        k,
-        e,
-        remaining,
-        rejected,
-        0,
-        k - 1,
-        f64::from_bits(0xFFF0_0000_0000_0000),
-    )
+    let low = f64::from_bits(0xFFF0_0000_0000_0000);
+    walk(table, work, f, remaining, rejected, 0, f.k - 1, low)
 }

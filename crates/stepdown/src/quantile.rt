@@ -11,6 +11,14 @@ ghost use Rattle.stepdown.specs.Method.{kMax, criticalValue};
 ghost use Rattle.stepdown.specs.Buffers.{written};
 ghost use Rattle.stepdown.specs.Internal.{Ready};
 
+// What stays the same in all critical values of a step: M and the columns, k, and e.
+pub struct Figures {
+    pub rows: usize,
+    pub columns: usize,
+    pub k: usize,
+    pub e: usize,
+}
+
 // The k-max of each row over the columns of `set`, into the first places of the work buffer.
 fn fill(table: &[f64], work: &mut [f64], rows: usize, cols: usize, k: usize, set: u32)
     requires { ⌜ Ready (now table) rows cols k × (rows ≤ length (now work)) × (k ≤ size (columnsOf cols set)) ⌝ }
@@ -25,19 +33,11 @@ fn fill(table: &[f64], work: &mut [f64], rows: usize, cols: usize, k: usize, set
     }
 }
 
-// The critical value of the columns of `set`; of the work buffer only the first `rows` places change.
-pub(crate) fn critical(
-    table: &[f64],
-    work: &mut [f64],
-    rows: usize,
-    cols: usize,
-    k: usize,
-    e: usize,
-    set: u32,
-) -> f64
-    requires { ⌜ Ready (now table) rows cols k × (rows ≤ length (now work)) × (k ≤ size (columnsOf cols set)) × (e < rows) ⌝ }
-    ensures { λ r. ⌜ (r ≡ criticalValue k e (rowsOf rows cols (now (table .entry))) (columnsOf cols set)) × (drop rows (now (work .exit)) ≡ drop rows (now (work .entry))) ⌝ }
+// The critical value of the columns of `set`; of the work buffer only the first M places change.
+pub(crate) fn critical(table: &[f64], work: &mut [f64], f: Figures, set: u32) -> f64
+    requires { ⌜ Ready (now table) (f .rows) (f .columns) (f .k) × (f .rows ≤ length (now work)) × (f .k ≤ size (columnsOf (f .columns) set)) × (f .e < f .rows) ⌝ }
+    ensures { λ r. ⌜ (r ≡ criticalValue (f .k) (f .e) (rowsOf (f .rows) (f .columns) (now (table .entry))) (columnsOf (f .columns) set)) × (drop (f .rows) (now (work .exit)) ≡ drop (f .rows) (now (work .entry))) ⌝ }
 {
-    fill(table, work, rows, cols, k, set);
-    smallest::mth_smallest(&work[..rows], rows - e)
+    fill(table, work, f.rows, f.columns, f.k, set);
+    smallest::mth_smallest(&work[..f.rows], f.rows - f.e)
 }

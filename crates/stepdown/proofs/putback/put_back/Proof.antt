@@ -11,9 +11,9 @@ use Rattle.stepdown.proofs.putback.walk.Reads as walk-reads
 sub-walk : tie.Need-sub-walk
 sub-walk c = search needs
 
-float-from-bits-walk : tie.Need-float-from-bits-walk
+float-from-bits-low : tie.Need-float-from-bits-low
 unfolding nanBits
-float-from-bits-walk c = search needs
+float-from-bits-low c = search needs
 
 walk-requires : tie.Need-walk-requires
 walk-requires c κs = search needs
@@ -23,8 +23,8 @@ same-length c = search needs
 
 returns : tie.Need-returns
 unfolding ofBits
-returns c = let w = c .before .before in let q = w .before .before .before .before .pre in (put-back-value _ _ _ _ _ _ _ (q .0) (q .4) (w .walk .ensures .0), w .walk .ensures .1)
+returns c = let w = c .before .before in let q = w .before .before .before .before .before .pre in (put-back-value _ _ _ _ _ _ _ (q .0) (q .4) (w .walk .ensures .0), w .walk .ensures .1)
 
 pub put-back-spec : {M : Type 1} → statement M
 put-back-spec =
-    tie.close (tie.spec sub-walk float-from-bits-walk walk-requires same-length returns)
+    tie.close (tie.spec float-from-bits-low sub-walk walk-requires same-length returns)

@@ -24,14 +24,14 @@ slice-reshare-prefix-mth-smallest : tie.Need-slice-reshare-prefix-mth-smallest
 slice-reshare-prefix-mth-smallest c = search needs
 
 slice-aggregate-mth-smallest : tie.Need-slice-aggregate-mth-smallest
-slice-aggregate-mth-smallest c = let f = c .before .before .before in sym (length-take-le (f .before .before .before .before .args .rows) (f .fill .last .1 .0) (omega (arith, f .fill .kept .1 .0)))
+slice-aggregate-mth-smallest c = let f = c .before .before .before in sym (length-take-le (f .before .before .before .before .args .f .rows) (f .fill .last .1 .0) (omega (arith, f .fill .kept .1 .0)))
 
 sub-mth-smallest : tie.Need-sub-mth-smallest
 sub-mth-smallest c = search needs
 
 mth-smallest-requires : tie.Need-mth-smallest-requires
 mth-smallest-requires c κs =
-    let f = c .before .before .before in
+    let f = c .before .before .before .before in
     let p = f .before .before .before .before .pre in
     front-rank _ _ _ _ _ _ (p .0) (p .3) _ _ (f .fill .ensures)
 
@@ -40,7 +40,7 @@ same-length c = search needs
 
 returns : tie.Need-returns
 returns c =
-    let f = c .before .before .before .before in
+    let f = c .before .before .before .before .before in
     let p = f .before .before .before .before .pre in
     (quantile-is _ _ _ _ _ _ (p .0) (p .3) _ _ (f .fill .ensures) (c .mth-smallest .ensures), back-is _ _ _ _ _ _ (p .0) (p .3) _ _ (f .fill .ensures))
 
