@@ -216,9 +216,9 @@ top-skip total rest rest′ t e h = record {
   fourth = seen-same total rest rest′ 4 (key (t .d)) e (h .fourth);
 }
 
-pub top-start : (total : ℕ → ℕ) → Top4 total total (four (inf true) (inf true) (inf true) (inf true))
+pub top-start : (total : ℕ → ℕ) (t : Top) → t ≡ four (inf true) (inf true) (inf true) (inf true) → Top4 total total t
 unfolding key
-top-start total = record { lows = (tt, tt, tt, tt); some = λ v. omega arith; first = none 1 (omega arith); second = none 2 (omega arith); third = none 3 (omega arith); fourth = none 4 (omega arith) }
+top-start total t e = rw e (record { lows = (tt, tt, tt, tt); some = λ v. omega arith; first = none 1 (omega arith); second = none 2 (omega arith); third = none 3 (omega arith); fourth = none 4 (omega arith) })
   where
     none : (j : ℕ) → 0 < j → Seen total total j 0
     none j p v = (λ q. absurd (omega arith), λ q. absurd (omega arith))

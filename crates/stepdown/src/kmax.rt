@@ -7,7 +7,7 @@ ghost use Rattle.order.specs.Order.{finite};
 ghost use Rattle.order.specs.Counting.{all};
 ghost use Rattle.stepdown.specs.Columns.{size, columnsOf};
 ghost use Rattle.stepdown.specs.Method.{kMax};
-ghost use Rattle.stepdown.specs.Internal.{pushed, nth};
+ghost use Rattle.stepdown.specs.Internal.{four, pushed, nth};
 
 // The four largest values so far, in falling order; minus infinity where there are fewer.
 pub struct Top {
@@ -17,6 +17,13 @@ pub struct Top {
     pub d: f64,
 }
 
+fn top_of(a: f64, b: f64, c: f64, d: f64) -> Top
+    ensures { λ r. ⌜ r ≡ four a b c d ⌝ }
+{
+    Top { a, b, c, d }
+}
+
+// With x seen too. Most values are not above the fourth: that test comes first.
 fn push(t: Top, x: f64) -> Top
     ensures { λ r. ⌜ r ≡ pushed t x ⌝ }
 {
@@ -24,37 +31,18 @@ fn push(t: Top, x: f64) -> Top
         if t.c < x {
             if t.b < x {
                 if t.a < x {
-                    return Top {
-                        a: x,
-                        b: t.a,
-                        c: t.b,
-                        d: t.c,
-                    };
+                    return top_of(x, t.a, t.b, t.c);
                 }
-                return Top {
-                    a: t.a,
-                    b: x,
-                    c: t.b,
-                    d: t.c,
-                };
+                return top_of(t.a, x, t.b, t.c);
             }
-            return Top {
-                a: t.a,
-                b: t.b,
-                c: x,
-                d: t.c,
-            };
+            return top_of(t.a, t.b, x, t.c);
         }
-        return Top {
-            a: t.a,
-            b: t.b,
-            c: t.c,
-            d: x,
-        };
+        return top_of(t.a, t.b, t.c, x);
     }
     t
 }
 
+// The k-th of the four.
 fn nth_of(t: Top, k: usize) -> f64
     ensures { λ r. ⌜ r ≡ nth t k ⌝ }
 {
@@ -76,12 +64,7 @@ pub(crate) fn kmax(row: &[f64], set: u32, k: usize) -> f64
     ensures { λ r. ⌜ r ≡ kMax k (columnsOf (length (now (row .entry))) set) (now (row .entry)) ⌝ }
 {
     let low = f64::from_bits(0xFFF0_0000_0000_0000);
-    let mut t = Top {
-        a: low,
-        b: low,
-        c: low,
-        d: low,
-    };
+    let mut t = top_of(low, low, low, low);
     let mut s = set;
     let mut i: usize = 0;
     while i < row.len() {

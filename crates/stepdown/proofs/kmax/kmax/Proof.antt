@@ -29,9 +29,12 @@ float-from-bits-low : tie.Need-float-from-bits-low Inv-loop μ-loop
 unfolding nanBits
 float-from-bits-low c = search needs
 
+top-of-requires : tie.Need-top-of-requires Inv-loop μ-loop
+top-of-requires c κs = search needs
+
 loop-holds : tie.Need-loop-holds Inv-loop μ-loop
 unfolding ofBits
-loop-holds c = (omega arith, c .before .pre .0, c .before .pre .1, c .before .pre .2, c .before .pre .3, top-start _)
+loop-holds c = let p = c .before .before .pre in (omega arith, p .0, p .1, p .2, p .3, top-start _ _ (c .top-of .ensures))
 
 mul-push : tie.Need-mul-push Inv-loop μ-loop
 mul-push c = search needs
@@ -80,6 +83,7 @@ kmax-spec =
     Inv-loop
     μ-loop
     float-from-bits-low
+    top-of-requires
     loop-holds
     mul-push
     shared-slice-read-push
