@@ -6,23 +6,22 @@ the others. `all_cases()` yields every case; names are unique.
 
 import random
 
+from generators.examples import example_cases
 from generators.files import file_cases
-from generators.kinds import BeginCase, FileCase, RecordCase, StepCase, TableCase
 from generators.records import record_cases
-from generators.runs import step_cases
+from generators.runs import step_cases, walk_cases
 from generators.tables import begin_cases, table_cases
-
-__all__ = ["SEED", "FAMILIES", "cases_of", "all_cases",
-           "FileCase", "RecordCase", "TableCase", "BeginCase", "StepCase"]
 
 SEED = 20_260_101
 
 FAMILIES = {
+    "example": example_cases,
     "file": file_cases,
     "record": record_cases,
     "table": table_cases,
     "begin": begin_cases,
     "step": step_cases,
+    "walk": walk_cases,
 }
 
 

@@ -2,8 +2,9 @@
 
 from functools import singledispatch
 
-from generators.kinds import BeginCase, FileCase, RecordCase, StepCase, TableCase
+from generators.kinds import BeginCase, FileCase, RecordCase, StepCase, TableCase, WalkCase
 from reference import ccall, report, run, table, trial, trialfile
+from reference.refusals import Refused
 
 MARK = 7  # what each place of a lent buffer holds before the call
 
@@ -17,7 +18,9 @@ def expected(case) -> dict:
 @expected.register
 def _(case: FileCase) -> dict:
     buffer = bytearray([MARK]) * case.buffer_room
-    return {"read": trialfile.read(case.data),
+    answer = trialfile.read(case.data)
+    return {"read": answer,
+            "full_run": answer if isinstance(answer, Refused) else trial.full_run(answer),
             "report": report.report(case.data),
             "c_call": (ccall.trial_verdicts(case.data, buffer), bytes(buffer))}
 
@@ -27,7 +30,8 @@ def _(case: RecordCase) -> dict:
     data = bytearray([MARK]) * case.file_room
     cells = [float(MARK)] * case.table_room
     run_cells, work = list(cells), [float(MARK)] * case.work_room
-    return {"write": (trialfile.write(case.trial, data), bytes(data)),
+    return {"check": trial.trial_refusal(case.trial) or 0,
+            "write": (trialfile.write(case.trial, data), bytes(data)),
             "table": (trial.table_of(case.trial, cells), cells),
             "full_run": (trial.full_run(case.trial, run_cells, work), run_cells, work)}
 
@@ -38,6 +42,17 @@ def _(case: TableCase) -> dict:
     answer = table.full_run(case.values, case.rows, case.columns, case.k, case.a, case.b,
                             case.observed, work)
     return {"full_run": (answer, work)}
+
+
+@expected.register
+def _(case: WalkCase) -> dict:
+    work = [float(MARK)] * case.work_room
+    begun = run.begin(case.rows, case.columns, case.k, case.a, case.b, case.observed)
+    steps, now = [], begun
+    while not isinstance(now, Refused):
+        steps.append(run.step(now, case.values, work))
+        now = steps[-1] if isinstance(steps[-1], Refused) else steps[-1][0]
+    return {"begin": begun, "steps": (steps, work)}
 
 
 @expected.register

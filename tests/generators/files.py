@@ -126,14 +126,17 @@ def defects():
 
 
 def defects_alone_and_paired():
-    """Each defect alone, each two together, and all under a length that is no multiple of 4."""
+    """Each defect alone, each two together, and all under a length that is no multiple of 4.
+
+    Of two the one that is listed first is laid on last: another kind, or a cut, over a bad value.
+    """
     words = words_of(write(BASE))
     for name, defect in defects().items():
         data = bytes_of(defect(words))
         yield f"defect-{name}", data
         yield f"defect-{name}-odd", data + b"\0"
     for (one, first), (two, second) in combinations(defects().items(), 2):
-        yield f"defects-{one}-{two}", bytes_of(second(first(words)))
+        yield f"defects-{one}-{two}", bytes_of(first(second(words)))
 
 
 def random_damage(rng, how_many):

@@ -26,6 +26,20 @@ class RecordCase:
     work_room: int
 
 
+class Repeated(tuple):
+    """The values of a large table: some are written and repeat, others are laid over them.
+
+    The program that is tested makes such a table from the few values, in the same way.
+    """
+
+    def __new__(cls, written, length, place=0, laid=()):
+        cells = [written[i % len(written)] for i in range(length)]
+        cells[place:place + len(laid)] = laid
+        self = super().__new__(cls, cells)
+        self.written, self.place, self.laid = tuple(written), place, tuple(laid)
+        return self
+
+
 @dataclass(frozen=True)
 class TableCase:
     """A lent table for a full run."""
@@ -39,6 +53,10 @@ class TableCase:
     b: int
     observed: int
     work_room: int
+
+
+class WalkCase(TableCase):
+    """A lent table for a run by steps, from its beginning until a step is refused."""
 
 
 @dataclass(frozen=True)

@@ -6,8 +6,8 @@ from dataclasses import replace
 from reference.refusals import Refused
 from reference.run import Run, begin, step
 
-from .kinds import StepCase
-from .tables import MOST, STYLES, normal, rounded, staircase, table_case, values
+from .kinds import StepCase, WalkCase
+from .tables import MOST, STYLES, normal, refused_tables, rounded, staircase, table_case, values
 from .trials import level
 
 # 5 rows, 4 columns, k 2: a run that no clause of 14 spoils, after two steps.
@@ -32,7 +32,7 @@ def trajectories(rng):
         tables.append(table_case(rng, f"step-{number}", rows, columns,
                                  rng.randint(1, min(4, columns)), STYLES[number % len(STYLES)]))
     tables += [staircase(rng, 9, columns, k) for k in (1, 2, 3, 4) for columns in (k, k + 2, 8)]
-    tables += [staircase(rng, 40, 32, 1)]
+    tables += [staircase(rng, 6, 32, 1)]
     for t in tables:
         run = begin(t.rows, t.columns, t.k, t.a, t.b, t.observed)
         while True:
@@ -135,3 +135,21 @@ def wild_runs(rng):
                   rng.choice((rng.randrange(16), rng.randrange(16), rng.randrange(32))),
                   rng.choice((0, 1, 1, 2, 3, 4, 32, 33)), rng.random() < 0.2)
         yield StepCase(f"step-wild-{number}", run, CELLS, rng.choice((5, 5, 5, 4)))
+
+
+def walk_cases(rng):
+    """Runs from their beginning until a step is refused: tables of each style, long runs, refusals."""
+    for number in range(160):
+        rows, columns = rng.choice((1, 2, 4, 8, 20)), rng.randint(1, 14)
+        yield walked(table_case(rng, f"styled-{number}", rows, columns,
+                                rng.randint(1, min(4, columns)), STYLES[number % len(STYLES)]))
+    for k, columns in ((1, 32), (2, 16), (3, 12), (4, 10)):
+        yield walked(staircase(rng, 40, columns, k, rng.randrange(40)))
+    yield walked(table_case(rng, "4096x32", 4096, 32, 2, normal, 12, (1, 4096)))
+    for refused in list(refused_tables(rng))[:60]:
+        yield walked(refused)
+
+
+def walked(t) -> WalkCase:
+    """The run by steps of a table case."""
+    return WalkCase(**{**vars(t), "name": f"walk-{t.name}"})

@@ -5,13 +5,15 @@ from itertools import combinations
 
 from reference.refusals import MAX_B
 
-from .kinds import BeginCase, TableCase
+from .kinds import BeginCase, Repeated, TableCase
 from .trials import level
 
 MOST = 2 ** 64 - 1
 NAN, INF = math.nan, math.inf
 TINY, HUGE = 5e-324, 1.7976931348623157e308
 NORMAL = 2.2250738585072014e-308  # the smallest normal value
+LARGE = 2048  # a table of more values than this has only
+DRAWN = 1021  # so many of its own; a prime, so that rows and columns differ
 
 
 def ties(rng):
@@ -55,17 +57,22 @@ STYLES = (ties, signed_zeros, subnormals, huge, normal, rounded, any_size, neigh
 
 def values(rng, rows, columns, style, observed, lift=0):
     """A table of that style; the first `lift` columns get falling peaks in the observed row."""
-    cells = [style(rng) for _ in range(rows * columns)]
-    for j in range(lift):
-        cells[observed * columns + j] = 1e300 if j % 3 == 0 else 2.0 + 0.25 * (columns - j)
-    return tuple(cells)
+    drawn = [style(rng) for _ in range(drawn_for(rows * columns))]
+    peaks = [1e300 if j % 3 == 0 else 2.0 + 0.25 * (columns - j) for j in range(lift)]
+    cells = Repeated(drawn, rows * columns, observed * columns, peaks)
+    return tuple(cells) if len(cells) <= LARGE else cells
 
 
-def table_case(rng, name, rows, columns, k, style, lift=None) -> TableCase:
-    """An accepted table with a level and an observed row drawn for it."""
+def drawn_for(length):
+    """How many values of a table are drawn."""
+    return length if length <= LARGE else DRAWN
+
+
+def table_case(rng, name, rows, columns, k, style, lift=None, at=None) -> TableCase:
+    """An accepted table with an observed row drawn for it, and a level where none is given."""
     observed = rng.choice((0, rows - 1, rng.randrange(rows)))
     lift = rng.randint(0, columns) if lift is None else lift
-    a, b = level(rng, rows)
+    a, b = at or level(rng, rows)
     cells = values(rng, rows, columns, style, observed, lift if style in (normal, rounded) else 0)
     return TableCase(name, cells, rows, columns, k, a, b, observed,
                      rng.choice((rows, rows + 1, rows + 7)))
@@ -107,16 +114,28 @@ def accepted_tables(rng):
 
 
 def large_tables(rng):
-    """Both ends of the sizes; few, as each is a megabyte at most."""
+    """Both ends of the sizes. Small levels, so that the put-back sets are few."""
     yield table_case(rng, "table-4096x1", 4096, 1, 1, normal, 1)
     yield table_case(rng, "table-1x32", 1, 32, 4, rounded, 0)
     yield table_case(rng, "table-4096x32-ties", 4096, 32, 4, ties)
     yield table_case(rng, "table-4096x32-zeros", 4096, 32, 1, signed_zeros)
-    yield table_case(rng, "table-4096x32-normal-k4", 4096, 32, 4, normal, 9)
-    yield table_case(rng, "table-4096x32-normal-k2", 4096, 32, 2, normal, 20)
+    yield table_case(rng, "table-4096x32-normal-k4", 4096, 32, 4, normal, 7, (1, 4096))
+    yield table_case(rng, "table-4096x32-normal-k2", 4096, 32, 2, normal, 20, (3, 4096))
     yield table_case(rng, "table-4095x31", 4095, 31, 3, any_size)
     yield staircase(rng, 64, 32, 1, 63)
     yield staircase(rng, 12, 32, 3, 5)
+    ones = [float(rng.randrange(3)) for _ in range(DRAWN)]
+    for rows, columns in ((4096, 32), (4097, 1), (4096, 33), (4097, 32), (1, 33)):
+        for room in (rows, rows - 1):
+            yield TableCase(f"table-end-{rows}x{columns}-room-{room}",
+                            Repeated(ones, rows * columns), rows, columns, 1, 1, 4, rows - 1, room)
+    last = 4096 * 32 - 1
+    for name, bad in (("inf", INF), ("nan", NAN)):
+        yield TableCase(f"table-end-{name}", Repeated(ones, last + 1, last, [bad]), 4096, 32, 2,
+                        1, 4, 0, 4096)
+    for length in (last, last + 2):
+        yield TableCase(f"table-end-length-{length}", Repeated(ones, length), 4096, 32, 2,
+                        1, 4, 0, 4096)
 
 
 def figure_defects():
@@ -146,11 +165,6 @@ def refused_tables(rng):
         yield TableCase(f"table-{name}", **{**good, **change})
     for (one, first), (two, second) in combinations(listed.items(), 2):
         yield TableCase(f"table-{one}-{two}", **{**good, **second, **first})
-    for rows, columns in ((4096, 32), (4097, 1), (4096, 33), (4097, 32), (1, 33)):
-        cells = tuple(float(rng.randrange(3)) for _ in range(rows * columns))
-        for room in (rows, rows - 1):
-            yield TableCase(f"table-end-{rows}x{columns}-room-{room}", cells, rows, columns, 1,
-                            1, 4, rows - 1, room)
 
 
 def begin_cases(rng):

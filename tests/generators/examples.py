@@ -1,0 +1,66 @@
+"""The examples of document 01 by name, those with a star and those without."""
+
+from dataclasses import replace
+
+from reference.trial import make_trial, table_of
+from reference.trialfile import bytes_of, write
+
+from .kinds import BeginCase, FileCase, RecordCase, TableCase, WalkCase
+
+W = make_trial((1, 4), 1, [("0042", (5, 3, 4)), ("7", (2, -1, 1))])
+W_WORDS = (0x10004004, 0x20010203, 0x3400002A, 0x31000007, 0x40000005, 0x40000003, 0x40000004,
+           0x40000002, 0x4FFFFFFF, 0x40000001, 0xF000000A)
+P = tuple(map(float, (9, 8, 3, 4, 1, 2, 0, 4, 5, 1, 0, 1)))
+
+
+def example_cases(_rng):
+    """All examples; nothing is drawn."""
+    yield from starred()
+    yield from unstarred()
+
+
+def starred():
+    """The examples that are proved too."""
+    yield FileCase("example-w", bytes_of(W_WORDS), 16)
+    for name, change in (("as-printed", {}), ("1-8", dict(b=8)), ("1-9", dict(b=9)),
+                         ("7-8", dict(a=7, b=8)), ("k2", dict(k=2)), ("k2-1-9", dict(k=2, b=9))):
+        trial = replace(W, **change)
+        yield FileCase(f"example-w-file-{name}", write(trial), 2)
+        yield RecordCase(f"example-w-record-{name}", trial, 44, 16, 8)
+        yield WalkCase(f"example-w-walk-{name}", tuple(table_of(trial)), 8, 2, trial.k, trial.a,
+                       trial.b, 0, 8)
+    for row in range(8):
+        yield TableCase(f"example-w-row-{row}", tuple(table_of(W)), 8, 2, 1, 1, 4, row, 8)
+    for kind in (TableCase, WalkCase):
+        yield kind(f"example-p-{kind.__name__}", P, 4, 3, 2, 1, 4, 0, 4)
+        yield kind(f"example-one-{kind.__name__}", (-3.5,), 1, 1, 1, 1, 2, 0, 1)
+        yield kind(f"example-zeros-{kind.__name__}", (0.0, -0.0), 2, 1, 1, 1, 2, 0, 2)
+
+
+def unstarred():
+    """The ends of the ranges: pairs, offers, codes, rows."""
+    for offers, pairs in ((1, 9), (1, 10), (16, 1), (17, 1), (16, 9)):
+        yield FileCase(f"example-{offers}-offers-{pairs}-pairs", shaped(offers, pairs), 16)
+    for change in (dict(pairs=9), dict(pairs=10), dict(offers=16), dict(offers=17)):
+        name = "-".join(f"{field}-{value}" for field, value in change.items())
+        codes = tuple(range(16))
+        trial = replace(W, **{**change, "codes": codes, "digits": (2,) * 16})
+        yield RecordCase(f"example-record-{name}", trial, 652, 8192, 512)
+    for code in (9_999_999, 10_000_000):
+        trial = make_trial((1, 2), 1, [(str(code), (1,))])
+        trial = replace(trial, digits=(7,) + trial.digits[1:])
+        yield RecordCase(f"example-record-code-{code}", trial, 20, 2, 2)
+        words = (1 << 28 | 1 << 14 | 2, 0x20010101, 0x37000000 | code, 0x40000001, 0xF0000004)
+        yield FileCase(f"example-code-{code}", bytes_of(words), 1)
+    for rows in (4096, 4097):
+        values = tuple(float(g) for g in range(rows))
+        yield BeginCase(f"example-begin-{rows}", rows, 1, 1, 1, 4096, rows - 1)
+        yield TableCase(f"example-rows-{rows}", values, rows, 1, 1, 1, 4096, 4095, rows)
+
+
+def shaped(offers, pairs):
+    """A file of that shape, with its words counted truly."""
+    words = [0x10004004, 2 << 28 | 1 << 16 | offers << 8 | pairs]
+    words += [3 << 28 | 2 << 24 | i for i in range(offers)]
+    words += [4 << 28 | i for i in range(offers * pairs)]
+    return bytes_of(words + [15 << 28 | len(words)])
