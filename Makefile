@@ -1,7 +1,9 @@
-# make run    proves and builds the report program, and prints the report of samples/w.trial
-# make test   the one test command: the reference implementation, the tools and the C calls first, then `rt ci`, which proves every
-#             crate of crates.txt from nothing, tries the must-fail edits and runs the programs
-.PHONY: run test
+# make run      proves and builds the report program, and prints the report of samples/w.trial
+# make test     the one test command: the reference implementation, the tools, the C calls and the files of the test program
+#               first, then `rt ci`, which proves every crate of crates.txt from nothing, tries the must-fail edits and runs
+#               the programs
+# make vectors  writes the files of the test program again: its cases, and the answers as the reference has them
+.PHONY: run test vectors
 run:
 	@mkdir -p target
 	@rt check report > target/run.log 2>&1 || { cat target/run.log; exit 1; }
@@ -10,6 +12,9 @@ run:
 test:
 	@python3 -m unittest discover -s tests
 	@rt ci
+
+vectors:
+	@python3 tests/make_vectors.py
 
 # The sample host in C; then `target/host samples/w.trial` prints the verdicts of a trial file.
 .PHONY: host

@@ -1,0 +1,191 @@
+"""The files of the test program, crates/vectors: made again they are the same, and nothing is missing.
+
+`rt ci` runs the program over stdin and holds what it prints to stdout, which the reference made.
+"""
+
+import math
+import unittest
+from collections import Counter
+from itertools import combinations
+
+from cases import SEED, all_cases
+from expected import expected
+from generators import files, records
+from generators.kinds import BeginCase, FileCase, RecordCase, StepCase, TableCase, WalkCase
+from make_vectors import CRATE, files as made_files
+from reference.refusals import Refused, breaks_3, table_breaks_4
+from reference.run import CLAUSES_OF_14, clauses_broken
+from reference.trial import full_run, trial_refusal
+from reference.trialfile import bytes_of, read, words_of, write
+
+
+def number_of(answer) -> int:
+    return answer.number if isinstance(answer, Refused) else 0
+
+
+def of_figures(held) -> list:
+    """Which of 4, 3 and 10 the figures of a table, a beginning or a run break."""
+    return [number for number, broken in (
+        (4, table_breaks_4(held.rows, held.columns, held.k)), (3, breaks_3(held.a, held.b)),
+        (10, held.observed >= held.rows)) if broken]
+
+
+def of_lent(held, case) -> list:
+    """Which of 9, 11 and 12 the lent table and work buffer break."""
+    return [number for number, broken in (
+        (9, len(case.values) != held.rows * held.columns),
+        (11, not all(map(math.isfinite, case.values))), (12, case.work_room < held.rows))
+        if broken]
+
+
+class Stored(unittest.TestCase):
+    """The stored files are what the cases and the reference give."""
+
+    @classmethod
+    def setUpClass(cls):
+        cls.made = made_files()
+
+    def test_same(self):
+        for name, content in self.made.items():
+            self.assertTrue((CRATE / name).read_bytes() == content,
+                            f"crates/vectors/{name} differs: python3 tests/make_vectors.py")
+
+    def test_small(self):
+        self.assertLess(len(self.made["stdin"]), 4_000_000)
+        self.assertLess(len(self.made["stdout"]), 2_000_000)
+
+    def test_seed(self):
+        self.assertTrue(self.made["stdout"].startswith(f"seed {SEED}\n".encode()))
+
+
+class Covered(unittest.TestCase):
+    """What the cases have to reach."""
+
+    @classmethod
+    def setUpClass(cls):
+        cls.cases = {case.name: case for case in all_cases()}
+
+    def of(self, kind):
+        return [case for case in self.cases.values() if type(case) is kind]
+
+    def orders(self, kind, broken, answer, order):
+        """Each number decides where it alone is broken, and before each later one."""
+        alone, before = set(), set()
+        for case in self.of(kind):
+            numbers, found = sorted(broken(case), key=order.index), answer(expected(case))
+            self.assertEqual(found, numbers[0] if numbers else 0, case.name)
+            alone.update(numbers if len(numbers) == 1 else ())
+            before.update((found, later) for later in numbers[1:])
+        self.assertEqual(alone, set(order))
+        self.assertEqual(before, set(combinations(order, 2)))
+
+    def test_orders_of_a_table(self):
+        self.orders(TableCase, lambda case: of_figures(case) + of_lent(case, case),
+                    lambda answers: number_of(answers["full_run"][0]), (4, 3, 9, 10, 11, 12))
+
+    def test_orders_of_a_beginning(self):
+        self.orders(BeginCase, of_figures, lambda answers: number_of(answers["begin"]), (4, 3, 10))
+
+    def test_orders_of_a_step(self):
+        def broken(case):
+            numbers = [14] * bool(clauses_broken(case.run)) + [13] * case.run.ended
+            return numbers + of_lent(case.run, case)
+        self.orders(StepCase, broken, lambda answers: number_of(answers["step"][0]),
+                    (14, 13, 9, 11, 12))
+
+    def test_orders_of_a_record(self):
+        """The defects of the generator, alone and in pairs; 12 is a buffer too short."""
+        defects = {name: change for name, change in records.defects().items() if name[0] != "o"}
+        answered = {name: trial_refusal(change(records.BASE)) for name, change in defects.items()}
+        self.assertEqual(set(answered.values()), {4, 3, 5, 6, 7})
+        for name, number in answered.items():
+            self.assertEqual(number, int(name[0]))
+            self.assertIn(f"record-{name}", self.cases)
+            no_room = self.cases[f"record-{name}-no-room"]
+            self.assertEqual({number}, {number_of(answer[0]) for call, answer
+                                        in expected(no_room).items() if call != "check"})
+        before = set()
+        for one, two in combinations(defects, 2):
+            found = trial_refusal(self.cases[f"record-{one}-{two}"].trial)
+            before |= {(found, later) for later in {int(one[0]), int(two[0])} - {found}}
+        self.assertEqual(before, set(combinations((4, 3, 5, 6, 7), 2)) | {(6, 5)})
+        rooms = [case for case in self.of(RecordCase) if case.name.startswith("record-room")]
+        refused = Counter(tuple(number_of(answer[0]) for call, answer in expected(case).items()
+                                if call != "check") for case in rooms)
+        self.assertEqual(set(refused), {(0, 0, 0), (12, 0, 0), (0, 12, 12), (0, 0, 12),
+                                        (12, 12, 12)})
+
+    def test_orders_of_a_file(self):
+        """The defects of the generator, alone and in pairs; 1 before all."""
+        words = words_of(write(files.BASE))
+        defects = {name: change for name, change in files.defects().items() if name[0] != "o"}
+        for name, change in defects.items():
+            self.assertEqual(number_of(read(bytes_of(change(words)))), int(name[0]), name)
+            self.assertIn(f"file-defect-{name}", self.cases)
+            self.assertEqual(read(self.cases[f"file-defect-{name}-odd"].data), Refused(1))
+        before = set()
+        for one, two in combinations(defects, 2):
+            found = number_of(read(self.cases[f"file-defects-{one}-{two}"].data))
+            before |= {(found, later) for later in {int(one[0]), int(two[0])} - {found}}
+        self.assertEqual(before, set(combinations(range(2, 9), 2)) | {(n, 2) for n in range(3, 8)}
+                         | {(6, 5)})
+
+    def test_trials(self):
+        found = Counter(number_of(read(case.data)) for case in self.of(FileCase))
+        self.assertGreaterEqual(found[0], 2000)
+        self.assertGreaterEqual(sum(found.values()) - found[0], 2000)
+        self.assertEqual(set(found), set(range(9)))
+        shapes = {(trial.offers, trial.pairs, trial.k) for case in self.of(FileCase)
+                  if not isinstance(trial := read(case.data), Refused)}
+        self.assertEqual(len(shapes), sum(9 * min(4, offers) for offers in range(1, 17)))
+
+    def test_styles(self):
+        for style in ("ties", "equal_offers", "zeros", "opposite_offers", "ladder"):
+            self.assertTrue(any(f"file-valid-{style}" in name for name in self.cases), style)
+        signs = {tuple(sorted({math.copysign(1.0, value) for value in case.values}))
+                 for case in self.of(TableCase) if not any(case.values)}
+        self.assertEqual(signs, {(-1.0,), (1.0,), (-1.0, 1.0), ()})
+
+    def test_sizes(self):
+        accepted = {(case.rows, case.columns) for case in self.of(TableCase)
+                    if not of_figures(case) + of_lent(case, case)}
+        self.assertLessEqual({(1, 1), (1, 32), (4096, 1), (4096, 32)}, accepted)
+        refused = {(case.rows, case.columns) for case in self.of(TableCase)
+                   if 4 in of_figures(case)}
+        self.assertLessEqual({(4097, 1), (1, 33), (4097, 32), (4096, 33), (0, 2)}, refused)
+
+    def test_clauses_of_14(self):
+        broken = Counter(tuple(clauses_broken(case.run)) for case in self.of(StepCase))
+        for name, _ in CLAUSES_OF_14:
+            self.assertGreaterEqual(broken[(name,)], 3, name)
+
+    def test_walks(self):
+        lengths = Counter(len(expected(case)["steps"][0]) for case in self.of(WalkCase))
+        self.assertEqual(max(lengths), 33)
+        self.assertGreaterEqual(sum(lengths[n] for n in range(3, 34)), 30)
+
+    def test_examples(self):
+        """The examples of document 01 that have no star, and those that have one."""
+        def read_number(name):
+            return number_of(read(self.cases[name].data))
+        self.assertEqual([read_number(f"example-1-offers-{n}-pairs") for n in (9, 10)], [0, 4])
+        self.assertEqual([read_number(f"example-{n}-offers-1-pairs") for n in (16, 17)], [0, 4])
+        self.assertEqual([read_number(f"example-code-{n}") for n in (9999999, 10000000)], [0, 5])
+        rows = [expected(self.cases[f"example-rows-{n}"])["full_run"][0] for n in (4096, 4097)]
+        self.assertEqual([number_of(answer) for answer in rows], [0, 4])
+        trials = {name: full_run(read(self.cases[f"example-w-file-{name}"].data))
+                  for name in ("as-printed", "1-8", "1-9", "7-8", "k2", "k2-1-9")}
+        self.assertEqual({name: [record.critical_value for record in trial.records]
+                          for name, trial in trials.items()},
+                         {"as-printed": [4, 2], "1-8": [6, 2], "1-9": [12], "7-8": [-4],
+                          "k2": [0], "k2-1-9": [4]})
+        rejecting = [row for row in range(8)
+                     if expected(self.cases[f"example-w-row-{row}"])["full_run"][0].rejected()]
+        self.assertEqual(rejecting, [0, 2])
+        for name in ("p", "one", "zeros"):
+            for kind in ("TableCase", "WalkCase"):
+                self.assertIn(f"example-{name}-{kind}", self.cases)
+
+
+if __name__ == "__main__":
+    unittest.main()
