@@ -12,13 +12,12 @@ use lib.Dec.{T, eqb, ltb}
 use borrow.Author.Tests.{lt-ltb, le-ltb, ne-eqb}
 use Rattle.stepdown.specs.Buffers.{written}
 use Rattle.stepdown.specs.Refusals.{firstRefusal, tooShort}
-use Rattle.stepdown.specs.Answers.{acceptedRun, blankRun}
-use Rattle.stepdown.specs.declared.FullRun.{FullRun}
+use Rattle.stepdown.specs.Answers.{acceptedRun}
 use Rattle.stepdown.specs.declared.Judged.{Judged}
 use Rattle.verdicts.specs.Verdicts.{rejectedCount, smallSteps}
 use Rattle.verdicts.proofs.StepNumbers.{run-steps, blank-steps}
 use Rattle.trial.specs.Exchange.{rowTotal, tableOf, trialRun}
-use Rattle.trial.proofs.Accepted.{Accepted, accepted}
+use Rattle.trial.proofs.Accepted.{accepted}
 use Rattle.trialfile.specs.Words.{wordsOf}
 use Rattle.trialfile.specs.Files.{trialOf, fileChecks, fileRefusal}
 use Rattle.trialfile.proofs.Checks.{orElse, nonzero-stays, first-append}

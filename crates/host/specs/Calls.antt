@@ -1,15 +1,15 @@
--- The calls for hosts written in C (document 01, "Report and C call"). Definitions only.
---   stepBytes n js           the rejecting steps of the first n verdicts, 0 where one is kept
---   returned refusal count   what a call returns: the number of rejected, or 100 plus the refusal number
+-- The calls for hosts written in C: on a trial file (document 01, "Report and C call"), and in the same style on a table. Definitions only.
+--   stepBytes n js                  the rejecting steps of the first n verdicts, 0 where one is kept
+--   returned refusal count          what a call returns: the number of rejected, or 100 plus the refusal number
 --   bufferAfter refusal new old     what a lent buffer holds after a call: `new`, or `old` where the call is refused
---   fileOffers bytes         how many offers the trial of a file has
+--   fileOffers bytes                how many offers the trial of a file has
 --   trialVerdictsRefusal bytes places     of a file and a buffer of so many bytes: what the file is turned away for, then 12
 --   trialVerdictsAnswer bytes places      what the call returns
---   trialVerdictsBuffer bytes buf         the buffer afterwards: the rejecting steps in its first bytes, or unchanged where the call is refused
---   tableVerdictsRefusal                  of a table, a work buffer of so many values and a buffer of so many bytes: 4, 3, 9, 10, 11, then 12 for either
---   tableVerdictsAnswer                   what the call returns
---   tableVerdictsWork                     the work buffer afterwards: plus zero in its first places, a place for each row
---   tableVerdictsBuffer                   the buffer afterwards
+--   trialVerdictsBuffer bytes buf         the buffer afterwards: the rejecting step of each offer in its first bytes
+--   tableVerdictsRefusal t .. work places of a table, a work buffer of so many values and a buffer of so many bytes: 4, 3, 9, 10, 11, then 12 for either
+--   tableVerdictsAnswer t .. work places  what the call returns
+--   tableVerdictsWork t .. work places    the work buffer afterwards: plus zero in its first places, one for each row
+--   tableVerdictsBuffer t .. work buf     the buffer afterwards: the rejecting step of each column in its first bytes
 use Prim.Native.Nat.{ℕ, _+_}
 use mathlib.Core.Bool.{cond}
 use mathlib.Core.List.{List, _++_, map}

@@ -22,7 +22,6 @@ use Rattle.stepdown.specs.Refusals.{tableRunRefusal}
 use Rattle.stepdown.specs.Answers.{everyColumn, judgedAs, blankRun, acceptedRun, fullAnswer}
 use Rattle.stepdown.specs.declared.Run.{Run}
 use Rattle.stepdown.specs.declared.Step.{Step}
-use Rattle.stepdown.specs.declared.Verdict.{Verdict}
 use Rattle.stepdown.specs.declared.Verdict.the-variants.{Rejected, Kept}
 use Rattle.stepdown.specs.declared.Judged.{Judged}
 use Rattle.verdicts.specs.Verdicts.{rejectingStep, smallSteps}
