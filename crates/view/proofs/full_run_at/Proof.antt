@@ -18,10 +18,10 @@ use Rattle.view.proofs.full_run as under
 use Rattle.view.proofs.full_run.Symbol as under-def
 use Rattle.view.proofs.full_run.Symbol.{name as #view·full-run}
 use Rattle.view.proofs.full_run.Met as under-thm
-use Rattle.view.proofs.Thin.{URA, Val, SProp, ent, id⊢, Memory, Routine, Heap, Calls, Loops, WpFn, Atoms, Lfts, Shares, Fun, givenOf, Given, FmC, Is, Are, Ises, Contract, Triple, Args, Vals, Lasts, atExit, Stays, f64, yes, plain, word, typesAt, valss, flat, owns, onEntry, toks}
-use Rattle.view.proofs.Thin.{‵, raw, ⋆, _$_, _∵_, !, qed, by, move, use1, join, fsplit, fjoin, frame, done, peeks, shows}
-use Rattle.view.proofs.Thin.{agg, whole, sub, look-in, look, init, stop, hop, fld, from, load, addr, and-then, no-more, assigns, land, returns, enter, alloc1, alloc0, params1, pass1, pass0, free0, calls-at}
-use Rattle.view.proofs.Thin.{stay-dropped, gave-slice, walkOf, goes-dropped, goes-gave-slice, numbers, numbers-gone, numbers-go, words, words-tell, contractOf, back, comes-back, last-list, leaves, lets-go, closes}
+use Rattle.view.proofs.Thin.{URA, Val, SProp, ent, emp, id⊢, Memory, Routine, Heap, Calls, Loops, WpFn, Atoms, Lfts, Shares, Fun, givenOf, Given, FmC, Are, Ises, Contract, Triple, Args, Lasts, Stays, Spells, f64, yes, plain, word, typesAt, valss, owns, toks}
+use Rattle.view.proofs.Thin.{‵, raw, _⊛_, ⋆, _$_, _∵_, !, qed, by, move, keep, use1, split, join, fsplit, fjoin, frame, done}
+use Rattle.view.proofs.Thin.{agg, whole, sub, look-in, look, init, stop, hop, fld, from, load, addr, and-then, no-more, assigns, enter, alloc1, alloc0, params1, pass1, pass0, free0, calls-at}
+use Rattle.view.proofs.Thin.{stay-dropped, gave-slice, walkOf, goes-dropped, goes-gave-slice, numbers, numbers-gone, numbers-go, words, words-tell, contractOf, saidOf, back, answers, last-list, leaves, lets-go, closes}
 use Rattle.view.proofs.Apart.{Lent, slice, lowered, together}
 use Rattle.view.proofs.full_run_at.Key.{name as #view·full-run-at}
 use Rattle.view.proofs.full_run_at as over
@@ -31,7 +31,13 @@ use Rattle.view.proofs.full_run_at.Code as code
 abbrev stayed : Stays (over.ended .signature .params) (over.ended .kept)
 stayed = (stay-dropped (plain (λ κs. Lent (κs .0))) yes, (gave-slice (1 ∷ []) tt (plain (λ _. f64)), numbers-gone 2 6))
 
+abbrev spells : (κs : Lfts 2) → Spells (typesAt (over.signature .params) κs)
+spells κs = (slice-vals, (slice-vals, words 2 κs 6))
+
 module _ {M : Type 1} (𝓤 : URA M) (H : Heap 𝓤) (A : Atoms 𝓤) (W : Given 𝓤 H A) (mem : Memory → SProp 𝓤) (run : Routine → Fun 𝓤) where
+  abbrev Over : Contract 𝓤
+  Over = walkOf 𝓤 H A over.ended stayed (over.clauses 𝓤 H A mem run)
+
   abbrev Under : Contract 𝓤
   Under = contractOf 𝓤 H A under.ended (under.clauses 𝓤 H A mem run)
 
@@ -43,23 +49,20 @@ module _ {M : Type 1} (𝓤 : URA M) (H : Heap 𝓤) (A : Atoms 𝓤) (W : Given
     abbrev x : RefT (List Float)
     x = a .1 .0
 
-    abbrev vals : Vals over.signature κs
-    vals = (slice (d .values) ∷ [], (slice x ∷ [], valss (typesAt (numbers 2 6) κs) (words 2 κs 6) (a .1 .1)))
-
-    abbrev Post : Val → SProp 𝓤
-    Post = walkOf 𝓤 H A over.ended stayed (over.clauses 𝓤 H A mem run) .post ((κs, qs, tt, a, vals), tt)
+    abbrev y : Over .Ghost
+    y = ((κs, qs, tt, a, valss (typesAt (over.signature .params) κs) (spells κs) a), tt)
 
     -- what the function under it is passed
     abbrev at : Args under.signature κs
     at = (d, (x, a .1 .1 .1 .1))
 
     abbrev to : Under .Ghost
-    to = ((κs, qs, tt, at, (lowered d ∷ [], (slice x ∷ [], vals .1 .1 .1 .1))), tt)
+    to = ((κs, qs, tt, at, (lowered d ∷ [], (slice x ∷ [], y .0 .4 .1 .1 .1 .1))), tt)
 
-    hands : ent 𝓤 (onEntry 𝓤 H A over.signature κs qs a vals) (Under .pre to)
+    hands : ent 𝓤 (Over .pre y) (Under .pre to)
     hands =
-        qed W (raw (toks 𝓤 A 2 κs qs) ∷ ‵ (owns (typesAt (over.signature .params) κs) a vals) ∷ []) ∵
-        move ! (1 ∷ []) $ fsplit ! $ move ! (1 ∷ []) $ fsplit ! $ move ! (1 ∷ []) $ fsplit ! $ move ! (1 ∷ []) $ fsplit ! $
+        qed W ((raw (toks 𝓤 A 2 κs qs) ⊛ ‵ (owns (typesAt (over.signature .params) κs) a (y .0 .4))) ∷ raw (emp 𝓤) ∷ []) ∵
+        split ! $ keep ! (1 ∷ 0 ∷ []) $ fsplit ! $ move ! (1 ∷ []) $ fsplit ! $ move ! (1 ∷ []) $ fsplit ! $ move ! (1 ∷ []) $ fsplit ! $
         -- [the columns; the other numbers; the rows; the buffer; the values; the tokens]
         move ! (4 ∷ 2 ∷ 0 ∷ []) $ together ! (κs .0) d $ move ! (2 ∷ 1 ∷ []) $ fjoin ! $ move ! (1 ∷ 0 ∷ []) $ fjoin ! $ move ! (1 ∷ 0 ∷ []) $ join ! $ frame ! $ done !
 
@@ -67,23 +70,20 @@ module _ {M : Type 1} (𝓤 : URA M) (H : Heap 𝓤) (A : Atoms 𝓤) (W : Given
     abbrev last : Lasts under.ended κs at → Lasts over.ended κs a
     last zs = (tt, (zs .1 .0, (tt, (tt, (tt, (tt, (tt, (tt, tt))))))))
 
-    abbrev Said : FullRun → Lasts under.ended κs at → SProp 𝓤
-    Said r zs = under.clauses 𝓤 H A mem run κs at .ensures tt r (atExit under.ended κs at zs)
+    same : (r : FullRun) (zs : Lasts under.ended κs at) → ent 𝓤 (saidOf 𝓤 H A under.ended (under.clauses 𝓤 H A mem run) to r zs) (saidOf 𝓤 H A over.ended (over.clauses 𝓤 H A mem run) y r (last zs))
+    same r zs = id⊢ 𝓤 _
 
-    same : (r : FullRun) (zs : Lasts under.ended κs at) → ent 𝓤 (Said r zs) (over.clauses 𝓤 H A mem run κs a .ensures tt r (atExit over.ended κs a (last zs)))
-    same r zs = id⊢ 𝓤 (Said r zs)
-
-    exits : (r : FullRun) (u : Val) (zs : Lasts under.ended κs at) → ent 𝓤 (⋆ 𝓤 H A (back 𝓤 H A under.ended (under.clauses 𝓤 H A mem run) to u r zs)) (Post u)
+    exits : (r : FullRun) (u : Val) (zs : Lasts under.ended κs at) → ent 𝓤 (⋆ 𝓤 H A (back 𝓤 H A under.ended (under.clauses 𝓤 H A mem run) to u r zs)) (Over .post y u)
     exits r u zs =
         qed W (back 𝓤 H A under.ended (under.clauses 𝓤 H A mem run) to u r zs) ∵
-        move ! (2 ∷ []) $ last-list ! 6 (λ l. by ! (leaves 𝓤 H A W over.ended stayed (over.clauses 𝓤 H A mem run) ((κs, qs, tt, a, vals), tt) u r (last zs) (tt, (l, (tt, (tt, (tt, (tt, (tt, (tt, tt)))))))) (Said r zs) (same r zs)))
+        move ! (2 ∷ []) $ last-list ! 6 (λ l. by ! (leaves 𝓤 H A W over.ended stayed (over.clauses 𝓤 H A mem run) y u r (last zs) (tt, (l, (tt, (tt, (tt, (tt, (tt, (tt, tt)))))))) _ (same r zs)))
 
     module _ (C : Calls 𝓤 H) (Λ : Loops 𝓤 H) (fm : FmC 𝓤 H (W .laws) C) (known : Triple 𝓤 (C #view·full-run) Under) where
-      walk : Are (typesAt (over.signature .params) κs) (Ises (typesAt (over.signature .params) κs)) a vals → ent 𝓤 (onEntry 𝓤 H A over.signature κs qs a vals) (WpFn 𝓤 H C Λ code.function (flat (typesAt (over.signature .params) κs) vals) Post)
+      walk : Are (typesAt (over.signature .params) κs) (Ises (typesAt (over.signature .params) κs)) a (y .0 .4) → ent 𝓤 (Over .pre y) (WpFn 𝓤 H C Λ code.function (Over .args y) (Over .post y))
       walk are =
           let wide : WT (word (length (a .0 .now))) = record { fits = are .0 .0 .1 .0 } in
           let long : WT (word (length (x .now))) = record { fits = are .1 .0 .0 .1 .0 } in
-          qed W (raw (onEntry 𝓤 H A over.signature κs qs a vals) ∷ []) ∵ enter ! C Λ code.function _ _ $
+          qed W (raw (Over .pre y) ∷ []) ∵ enter ! C Λ code.function _ _ $
           alloc1 ! (λ l₀. alloc1 ! (λ l₁. alloc1 ! (λ l₂. alloc1 ! (λ l₃. alloc1 ! (λ l₄. alloc1 ! (λ l₅. alloc1 ! (λ l₆. alloc1 ! (λ l₇. alloc1 ! (λ l₈. alloc1 ! (λ l₉. alloc1 ! (λ l₁₀. alloc1 ! (λ l₁₁. alloc0 ! $ params1 ! $
           pass1 ! (init ! 20 refl (tt, (tt, (wide, tt)))) $ pass1 ! (init ! 18 refl (tt, (tt, (long, tt)))) $ pass1 ! (init ! 16 refl (tt, record { fits = are .1 .1 .0 .1 })) $ pass1 ! (init ! 14 refl (tt, record { fits = are .1 .1 .1 .0 .1 })) $ pass1 ! (init ! 12 refl (tt, record { fits = are .1 .1 .1 .1 .0 .1 })) $ pass1 ! (init ! 10 refl (tt, record { fits = are .1 .1 .1 .1 .1 .0 .1 })) $ pass1 ! (init ! 8 refl (tt, record { fits = are .1 .1 .1 .1 .1 .1 .0 .1 })) $ pass1 ! (init ! 6 refl (tt, record { fits = are .1 .1 .1 .1 .1 .1 .1 .0 .1 })) $ pass0 ! $
           assigns ! (agg ! (and-then ! (load ! (from ! (stop !)) (look ! 20 refl)) (and-then ! (load ! (from ! (stop !)) (look ! 16 refl)) (and-then ! (load ! (from ! (stop !)) (look ! 14 refl)) (no-more !))))) (from ! (stop !)) (init ! 4 refl (tt, ((tt, (wide, tt)), (record { fits = are .1 .1 .0 .1 }, (record { fits = are .1 .1 .1 .0 .1 }, tt))))) $
@@ -91,11 +91,9 @@ module _ {M : Type 1} (𝓤 : URA M) (H : Heap 𝓤) (A : Atoms 𝓤) (W : Given
           assigns ! (agg ! (and-then ! (load ! (from ! (stop !)) (look ! 2 refl)) (and-then ! (load ! (from ! (fld ! refl (stop !))) (look-in ! 18 (sub ! 1 refl (whole !)))) (no-more !)))) (from ! (stop !)) (init ! 0 refl (tt, (tt, (long, tt)))) $
           move ! (24 ∷ []) $ use1 W (raw (Under .pre to)) hands $
           calls-at ! fm Under known to (and-then ! (load ! (from ! (stop !)) (look ! 5 refl)) (and-then ! (load ! (from ! (stop !)) (look ! 1 refl)) (and-then ! (load ! (from ! (stop !)) (look ! 13 refl)) (and-then ! (load ! (from ! (stop !)) (look ! 11 refl)) (and-then ! (load ! (from ! (stop !)) (look ! 9 refl)) (and-then ! (load ! (from ! (stop !)) (look ! 7 refl)) (no-more !)))))))
-          (λ u. comes-back ! tt under.ended (under.clauses 𝓤 H A mem run) to u (λ r zs.
-          -- [what `back` has; the locals, the last first]
-          peeks ! F.the-row (Is F.the-row) (shows 𝓤 H A F.the-row) r (u ∷ []) (λ is. land ! (from ! (stop !)) (init ! 26 refl (LL.lawful F.the-type F′.the-laws 𝓤 H A W .typed r _ is .0)) $ returns ! (look ! 26 refl) $
-          move ! (26 ∷ 27 ∷ 24 ∷ 25 ∷ 22 ∷ 23 ∷ 20 ∷ 21 ∷ 18 ∷ 19 ∷ 16 ∷ 17 ∷ 14 ∷ 15 ∷ 12 ∷ 13 ∷ 10 ∷ 11 ∷ 8 ∷ 9 ∷ 6 ∷ 7 ∷ 4 ∷ 5 ∷ []) $ lets-go ! $ lets-go ! $ lets-go ! $ lets-go ! $ lets-go ! $ lets-go ! $ lets-go ! $ lets-go ! $ lets-go ! $ lets-go ! $ lets-go ! $ lets-go ! $ free0 ! $
-          by ! (exits r u zs))))))))))))))))
+          (λ u. move ! (23 ∷ 24 ∷ 0 ∷ []) $ answers ! under.ended (under.clauses 𝓤 H A mem run) to u (λ r is. LL.lawful F.the-type F′.the-laws 𝓤 H A W .typed r _ is .0) (λ r zs.
+          -- [what `back` has; the other locals, the last first]
+          move ! (24 ∷ 25 ∷ 22 ∷ 23 ∷ 20 ∷ 21 ∷ 18 ∷ 19 ∷ 16 ∷ 17 ∷ 14 ∷ 15 ∷ 12 ∷ 13 ∷ 10 ∷ 11 ∷ 8 ∷ 9 ∷ 6 ∷ 7 ∷ 4 ∷ 5 ∷ []) $ lets-go ! $ lets-go ! $ lets-go ! $ lets-go ! $ lets-go ! $ lets-go ! $ lets-go ! $ lets-go ! $ lets-go ! $ lets-go ! $ lets-go ! $ free0 ! $ by ! (exits r u zs)))))))))))))))
 
 pub full-run-at-spec : {M : Type 1} → stated.statement M
 unfolding code.routine
@@ -103,6 +101,5 @@ full-run-at-spec 𝓤 H 𝓜 𝓖 𝓡 =
     let A = 𝓖 .A in
     let W = givenOf 𝓤 H 𝓜 𝓖 in
     closes 𝓤 H 𝓜 𝓖 𝓡 code.env over.ended stayed (over.clauses 𝓤 H A (𝓜 .mem) (𝓡 .run)) (goes-dropped 𝓤 H A W 2 (plain (λ κs. Lent (κs .0))) yes (λ κs x f. refl), (goes-gave-slice 𝓤 H A W 2 1 tt (plain (λ _. f64)), numbers-go 𝓤 H A W 2 6))
-    #view·full-run-at code.function (code.unfolded 𝓤 H 𝓜 𝓡) under.ended (under.clauses 𝓤 H A (𝓜 .mem) (𝓡 .run)) #view·full-run under-def.routine code.calls-view·full-run (under-thm.met 𝓤 H 𝓜 𝓖 𝓡)
-    (λ κs. (slice-vals, (slice-vals, words 2 κs 6))) (λ κs. (shr-slice-tells (named 0) (κs .0) f64, (mut-slice-tells (named 1) (κs .1 .0) f64, words-tell 2 κs 6)))
+    #view·full-run-at code.function (code.unfolded 𝓤 H 𝓜 𝓡) under.ended (under.clauses 𝓤 H A (𝓜 .mem) (𝓡 .run)) #view·full-run under-def.routine code.calls-view·full-run (under-thm.met 𝓤 H 𝓜 𝓖 𝓡) spells (λ κs. (shr-slice-tells (named 0) (κs .0) f64, (mut-slice-tells (named 1) (κs .1 .0) f64, words-tell 2 κs 6)))
     (λ C Λ fm known κs qs bounds a g are. walk 𝓤 H A W (𝓜 .mem) (𝓡 .run) κs qs a C Λ fm known are)
