@@ -28,15 +28,14 @@ use Rattle.trial.specs.declared.Trial.{Trial}
 use Rattle.control.specs.Statements.{runsThatReject, SameOn, Keeps, ExchangedOn}
 use Rattle.control.proofs.Tables as control-tables
 use Rattle.control.proofs.Trials as control-trials
-use Rattle.trialfile.specs.Words.{wordsOf}
+use Rattle.trialfile.specs.Words.{Bytes, wordsOf}
 use Rattle.trialfile.specs.Files.{badLength, placeChecks, trialOf, fileRefusal, answered, readingOf}
 use Rattle.trialfile.specs.Writings.{fileOf, trimmed, writeRefusal, writingOf, afterWriting}
-use Rattle.trialfile.proofs.Words.{Bytes}
 use Rattle.trialfile.proofs.RoundTrip as round-trip
 use Rattle.filerun.specs.FileRuns.{fileRun, acceptedFile, refusedFile}
 use Rattle.rendering.specs.Reports.{cents, recordAt, trialText, refusedText, textOf, reportOf}
-use Rattle.rendering.specs.Renderings.{renderRefusal, renderingOf, afterRendering}
-use Rattle.rendering.proofs.Lengths.{longestReport}
+use Rattle.rendering.specs.Renderings.{longestReport, renderRefusal, renderingOf, afterRendering}
+
 use Rattle.rendering.proofs.Rendered as rendered
 use Rattle.rendering.proofs.Printing as printing
 use Rattle.host.specs.Calls.{trialVerdictsRefusal, trialVerdictsAnswer, trialVerdictsBuffer, tableVerdictsRefusal, tableVerdictsAnswer, tableVerdictsWork, tableVerdictsBuffer}

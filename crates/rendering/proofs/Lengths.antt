@@ -1,5 +1,4 @@
 -- How long a report can be.
---   longestReport      places that every report fits into
 --   report-fits        every text is at most that long
 use Prim.Native.Nat.{ℕ, zero, suc, _+_, _*_, _/_, _%_, _≤_, _<_}
 use native.Mathlib.Omega.{arith}
@@ -23,11 +22,9 @@ use Rattle.filerun.specs.declared.FileRun.{FileRun}
 use Rattle.rendering.specs.Ascii.{ascii}
 use Rattle.rendering.specs.Text.{digit, printed, decimalUpTo, decimal, decimalInt, afterFirst, line}
 use Rattle.rendering.specs.Reports.{cents, headLine, stepLine, verdictWord, verdictStep, offerLine, linesTo, recordAt, judgedAt, stepLineAt, offerLineAt, trialText, refusedText, textOf, reportOf}
+use Rattle.rendering.specs.Renderings.{longestReport}
 use Rattle.rendering.specs.Internal.{PrintableFile}
 use Rattle.rendering.proofs.Printing.{printable-file}
-
-abbrev pub longestReport : ℕ
-longestReport = 3000
 
 -- ---- numbers
 

@@ -21,10 +21,10 @@ use Rattle.filerun.specs.declared.FileRun.{FileRun}
 use Rattle.rendering.specs.Ascii.{ascii}
 use Rattle.rendering.specs.Text.{decimal, line}
 use Rattle.rendering.specs.Reports.{headLine, linesTo, stepLineAt, offerLineAt, trialText, refusedText, textOf, reportOf}
-use Rattle.rendering.specs.Renderings.{renderRefusal, renderingOf, afterRendering}
+use Rattle.rendering.specs.Renderings.{longestReport, renderRefusal, renderingOf, afterRendering}
 use Rattle.rendering.specs.Internal.{Wrote}
 use Rattle.rendering.specs.declared.Rendering.{Rendering}
-use Rattle.rendering.proofs.Lengths.{longestReport, report-fits}
+use Rattle.rendering.proofs.Lengths.{report-fits}
 
 -- ---- the text
 

@@ -1,4 +1,5 @@
 -- Rendering a report into a lent byte buffer. Definitions only.
+--   longestReport                places that every report fits into (`report-fits`)
 --   renderRefusal bytes places   12, where the text needs more places; a file's own refusal is part of the text
 --   renderingOf bytes places     what rendering answers: the refusal, and the length of the text
 --   afterRendering bytes buf     what the buffer holds afterwards: the text in its first places, or unchanged
@@ -11,6 +12,9 @@ use Rattle.stepdown.specs.Refusals.{firstRefusal, tooShort}
 use Rattle.stepdown.specs.Buffers.{written}
 use Rattle.rendering.specs.Reports.{reportOf}
 use Rattle.rendering.specs.declared.Rendering.{Rendering}
+
+abbrev pub longestReport : ℕ
+longestReport = 3000
 
 unfoldable pub renderRefusal : List ℕ → ℕ → ℕ
 unfolding firstRefusal reportOf

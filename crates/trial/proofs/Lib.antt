@@ -8,3 +8,4 @@ pub mod Calls
 pub mod Unused
 pub mod Examples
 pub mod Runs
+pub mod Exact

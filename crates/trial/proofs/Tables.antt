@@ -81,12 +81,17 @@ unfolding okOffer
 sum-small n g ds h t =
     omega (arith, signedSum-small g ds (and-right (leb (length ds) n) (all (λ d. not (badDifference d)) ds) t), leb→le (length ds) n (and-left (leb (length ds) n) (all (λ d. not (badDifference d)) ds) t))
 
+-- the sums of a row are small
+pub sums-small : (t : Trial) (g : ℕ) → Accepted t → T (all (λ ds. leb (natAbs (signedSum g ds)) (2 ^ 53)) (byOffer t))
+unfolding byOffer
+sums-small t g acc = all-le (okOffer (t .pairs)) (λ ds. leb (natAbs (signedSum g ds)) (2 ^ 53)) (byOffer t) (λ ds u. le→leb (natAbs (signedSum g ds)) (2 ^ 53) (sum-small (t .pairs) g ds (acc .pairs-most) u)) (offers-ok (t .offers) (t .pairs) (t .differences) (acc .in-range))
+
 -- what holds of every whole number up to 2^53 as an f64 holds of a row's values
 pub rowOf-all : (p : Float → Bool) → ((z : ℤ) → natAbs z ≤ 2 ^ 53 → T (p (ofInt binary64 z))) → (t : Trial) (g : ℕ) → Accepted t → T (all p (rowOf t g))
-unfolding rowOf byOffer
+unfolding rowOf
 rowOf-all p h t g acc =
     rw (all-map (λ ds. ofInt binary64 (signedSum g ds)) p (byOffer t))
-    (all-le (okOffer (t .pairs)) (λ ds. p (ofInt binary64 (signedSum g ds))) (byOffer t) (λ ds u. h (signedSum g ds) (sum-small (t .pairs) g ds (acc .pairs-most) u)) (offers-ok (t .offers) (t .pairs) (t .differences) (acc .in-range)))
+    (all-le (λ ds. leb (natAbs (signedSum g ds)) (2 ^ 53)) (λ ds. p (ofInt binary64 (signedSum g ds))) (byOffer t) (λ ds u. h (signedSum g ds) (leb→le (natAbs (signedSum g ds)) (2 ^ 53) u)) (sums-small t g acc))
 
 pub rowOf-sound : (t : Trial) (g : ℕ) → Accepted t → T (soundRow (t .offers) (rowOf t g))
 rowOf-sound t g acc =

@@ -16,10 +16,10 @@ use borrow.Author.Tests.{ltb-false, eqb-true, not-false}
 use Rattle.trial.specs.Record.{Typed}
 use Rattle.trial.specs.Refusals.{trialRefusal}
 use Rattle.trial.specs.declared.Trial.{Trial}
-use Rattle.trialfile.specs.Words.{wordsOf, bytesOf}
+use Rattle.trialfile.specs.Words.{Bytes, wordsOf, bytesOf}
 use Rattle.trialfile.specs.Files.{trialOf, wordsBefore, longest, fileRefusal, answered, readingOf}
 use Rattle.trialfile.specs.Writings.{fileWords, fileOf, trimmed}
-use Rattle.trialfile.proofs.Words.{Bytes, words-bytes, bytes-words}
+use Rattle.trialfile.proofs.Words.{words-bytes, bytes-words}
 use Rattle.trialfile.proofs.Written.{words-hold, file-accepted}
 use Rattle.trialfile.proofs.Passed.{words-many, trial-accepted, trial-typed, words-again, file-passed, lengths}
 

@@ -10,11 +10,7 @@ use lib.ListN.{length, getD, List·getD-eq-default}
 use lib.Dec.{T, ltb, ltb→lt}
 use Rattle.order.proofs.Booleans.{and-left, and-right}
 use Rattle.order.specs.Counting.{all}
-use Rattle.trialfile.specs.Words.{wordsOf, wordBytes, bytesOf, word}
-
--- every member is a byte
-abbrev pub Bytes : List ℕ → Type 0
-Bytes bs = T (all (λ b. ltb b 256) bs)
+use Rattle.trialfile.specs.Words.{Bytes, wordsOf, wordBytes, bytesOf, word}
 
 pub words-bytes : (ws : List ℕ) → wordsOf (bytesOf ws) ≡ ws
 unfolding wordsOf bytesOf

@@ -1,4 +1,5 @@
 -- The words of a trial file (document 01): 32 bits, little-endian; bits 31 to 28 are the kind. Definitions only.
+--   Bytes bs                          every member is a byte
 --   wordsOf bytes                     the words that bytes hold
 --   wordBytes w, bytesOf ws           the bytes of a word, of words
 --   word ws i                         the word at place i; a missing word reads as 0, whose kind no place needs
@@ -15,10 +16,14 @@ use Prim.Native.Nat.{ℕ, _+_, _-_, _*_, _/_, _%_}
 use mathlib.Core.Bool.{cond}
 use mathlib.Core.List.{List, [], _∷_, _++_}
 use lib.ListN.{getD}
-use lib.Dec.{ltb}
+use lib.Dec.{T, ltb}
+use Rattle.order.specs.Counting.{all}
 use lib.IntN.{ℤ, pos, negsuc}
 
 -- ---- words and bytes
+
+abbrev pub Bytes : List ℕ → Type 0
+Bytes bs = T (all (λ b. ltb b 256) bs)
 
 unfoldable pub wordsOf : List ℕ → List ℕ
 wordsOf [] = []

@@ -1,0 +1,114 @@
+-- Files through the calls: what the writer leaves is read back, and what is read is written again; input that is cut off.
+--   same-trimmed       a trial, and the same trial with zero in the places that its counts don't use
+--   file-written       an accepted trial in a buffer that is long enough
+--   write-back, read-back      the two round trips, through the lent buffer
+--   cut-off            more bytes than one above the longest file change nothing
+use Prim.Native.Nat.{ℕ, _+_, _-_, _*_, _%_, _≤_, _<_}
+use native.Mathlib.Omega.{arith}
+use native.Mathlib.Decide.{decLe}
+use mathlib.Core.Path.{_≡_, refl, sym, ap, ap₂, _∙_, subst}
+use mathlib.Core.Bool.{Bool, true, false, false≢true, cond, not, _||_}
+use mathlib.Core.List.{List, [], _∷_, _++_}
+use lib.ListN.{length, take, drop, replicate}
+use lib.Seq.{take-at, take-all, take-length, length-take-le}
+use lib.Dec.{ltb, eqb}
+use lib.IntN.{pos}
+use borrow.Author.Tests.{lt-ltb, ne-eqb}
+use Rattle.stepdown.specs.Refusals.{firstRefusal}
+use Rattle.stepdown.specs.Buffers.{written}
+use Rattle.trial.specs.Record.{Typed}
+use Rattle.trial.specs.Used.{SameUsed}
+use Rattle.trial.specs.Refusals.{trialRefusal}
+use Rattle.trial.specs.declared.Trial.{Trial}
+use Rattle.trialfile.specs.Words.{Bytes, wordsOf}
+use Rattle.trialfile.specs.Files.{longest, badLength, placeChecks, trialOf, fileRefusal, answered, readingOf, wordsBefore}
+use Rattle.trialfile.specs.Writings.{fileOf, fileLength, trimmed, writingOf, afterWriting}
+use Rattle.trialfile.specs.declared.Reading.{Reading}
+use Rattle.trialfile.proofs.Parts.{parts}
+use Rattle.trialfile.proofs.Writes.{writing-done}
+use Rattle.trialfile.proofs.Written.{fileLength-is}
+use Rattle.trialfile.proofs.RoundTrip.{write-read, read-taken, read-write, read-accepted, read-typed}
+use Rattle.filerun.specs.FileRuns.{fileRun, acceptedFile, refusedFile}
+use Rattle.filerun.specs.declared.FileRun.{FileRun}
+use Rattle.rendering.specs.Reports.{textOf, reportOf}
+
+module _ (t : Trial) (ty : Typed t) (h : trialRefusal t ≡ 0) where
+  pub same-trimmed : SameUsed t (trimmed t)
+  unfolding trimmed
+  same-trimmed = let p = parts t ty h in record {
+    a-same = refl;
+    b-same = refl;
+    k-same = refl;
+    offers-same = refl;
+    pairs-same = refl;
+    codes-same = sym (take-at (take (t .offers) (t .codes)) _ (t .offers) (p .codes-used));
+    digits-same = sym (take-at (take (t .offers) (t .digits)) _ (t .offers) (p .digits-used));
+    differences-same = sym (take-at (take (t .offers * t .pairs) (t .differences)) _ (t .offers * t .pairs) (p .differences-used));
+  }
+
+  module _ (buf : List ℕ) (room : fileLength t ≤ length buf) where
+    pub file-written : (record { refusal = 0; length = fileLength t } ≡ writingOf t (length buf)) × (written (fileOf t) buf ≡ afterWriting t buf)
+    file-written = writing-done t buf 0 (wordsBefore t + 1) (sym h) refl refl (written (fileOf t) buf) room refl
+
+    pub file-left : take (fileLength t) (afterWriting t buf) ≡ fileOf t
+    file-left =
+        ap (take (fileLength t)) (sym (file-written .1))
+        ∙ take-at (fileOf t) (drop (length (fileOf t)) buf) (fileLength t) (fileLength-is t ty h)
+
+    pub write-back : readingOf (take (fileLength t) (afterWriting t buf)) ≡ answered 0 (trimmed t)
+    write-back = ap readingOf file-left ∙ write-read t ty h
+
+module _ (bytes : List ℕ) (b : Bytes bytes) (h : fileRefusal bytes ≡ 0) where
+  file-again : fileOf (trialOf (wordsOf bytes)) ≡ bytes
+  file-again = read-write bytes h b
+
+  length-again : fileLength (trialOf (wordsOf bytes)) ≡ length bytes
+  length-again = sym (fileLength-is (trialOf (wordsOf bytes)) (read-typed bytes h) (read-accepted bytes h)) ∙ ap length file-again
+
+  module _ (buf : List ℕ) (room : length bytes ≤ length buf) where
+    written-again : (writingOf (trialOf (wordsOf bytes)) (length buf) ≡ record { refusal = 0; length = length bytes }) × (take (length bytes) (afterWriting (trialOf (wordsOf bytes)) buf) ≡ bytes)
+    written-again =
+        let r : fileLength (trialOf (wordsOf bytes)) ≤ length buf = omega (arith, length-again) in
+        let ty = read-typed bytes h in
+        let ok = read-accepted bytes h in
+        (
+          sym (file-written (trialOf (wordsOf bytes)) ty ok buf r .0) ∙ ap (λ (n : ℕ). record { refusal = 0; length = n }) length-again,
+          ap (λ (n : ℕ). take n (afterWriting (trialOf (wordsOf bytes)) buf)) (sym length-again) ∙ file-left (trialOf (wordsOf bytes)) ty ok buf r ∙ file-again,
+        )
+
+    pub read-back : (writingOf (readingOf bytes .trial) (length buf) ≡ record { refusal = 0; length = length bytes }) × (take (length bytes) (afterWriting (readingOf bytes .trial) buf) ≡ bytes)
+    read-back =
+        subst (λ (t : Trial). (writingOf t (length buf) ≡ record { refusal = 0; length = length bytes }) × (take (length bytes) (afterWriting t buf) ≡ bytes))
+        (sym (ap (λ (r : Reading). r .trial) (read-taken bytes h))) written-again
+
+-- ---- input that is longer than any file
+
+too-long : (bytes : List ℕ) → longest < length bytes → fileRefusal bytes ≡ 1
+unfolding fileRefusal firstRefusal badLength
+too-long bytes h = go (eqb (length bytes) 0) (not (eqb (length bytes % 4) 0)) (ltb longest (length bytes)) (lt-ltb longest (length bytes) h)
+  where
+    go : (x y z : Bool) → z ≡ true → cond (x || (y || z)) 1 (firstRefusal (placeChecks (wordsOf bytes))) ≡ 1
+    go true y z e = refl
+    go false true z e = refl
+    go false false true e = refl
+    go false false false e = absurd (false≢true e)
+
+refused-alike : (xs ys : List ℕ) (n : ℕ) → (n ≡ 0 → ⊥) → fileRefusal xs ≡ n → fileRefusal ys ≡ n → fileRun xs ≡ fileRun ys
+unfolding fileRun
+refused-alike xs ys n f p q = refused xs p ∙ sym (refused ys q)
+  where
+    refused : (cs : List ℕ) → fileRefusal cs ≡ n → cond (eqb (fileRefusal cs) 0) (acceptedFile (trialOf (wordsOf cs))) (refusedFile (fileRefusal cs)) ≡ refusedFile n
+    refused cs e =
+        ap (λ (m : ℕ). cond (eqb m 0) (acceptedFile (trialOf (wordsOf cs))) (refusedFile m)) e
+        ∙ ap (λ (b : Bool). cond b (acceptedFile (trialOf (wordsOf cs))) (refusedFile n)) (ne-eqb n 0 f)
+
+pub cut-off : (bytes : List ℕ) → reportOf (take (longest + 1) bytes) ≡ reportOf bytes
+unfolding reportOf
+cut-off bytes = ap textOf (go (decLe (length bytes) (longest + 1)))
+  where
+    go : Dec (length bytes ≤ longest + 1) → fileRun (take (longest + 1) bytes) ≡ fileRun bytes
+    go (yes h) = ap fileRun (take-all (longest + 1) bytes h)
+    go (no h) =
+        let l : longest + 1 < length bytes = omega (arith, h) in
+        refused-alike (take (longest + 1) bytes) bytes 1 (λ z. omega arith)
+        (too-long (take (longest + 1) bytes) (omega (arith, length-take-le (longest + 1) bytes (omega arith)))) (too-long bytes (omega arith))
