@@ -3,15 +3,21 @@
 --   decided-first      where there is a refusal, a condition with that number is the first to hold
 --   none-decides, none-each      where no condition holds, there is no refusal; each one by its place
 --   kept, taken        what is given for a refusal, and where there is none
+--   told-number, told-verdict      what a full run tells
 use Prim.Native.Nat.{ℕ, zero, suc, _<_}
 use native.Mathlib.Omega.{arith}
 use mathlib.Core.Path.{_≡_, refl, sym, ap, _∙_}
 use mathlib.Core.Bool.{Bool, true, false, cond, true≢false, false≢true}
-use mathlib.Core.List.{List, [], _∷_}
-use lib.ListN.{length, getD}
+use mathlib.Core.List.{List, [], _∷_, map}
+use lib.ListN.{length, getD, length-map, List·getD-append}
 use lib.Dec.{eqb}
 use borrow.Author.Tests.{eq-eqb, ne-eqb}
 use Rattle.stepdown.specs.Refusals.{Checks, firstRefusal}
+use Rattle.stepdown.specs.Runs.{Outcome}
+use Rattle.stepdown.specs.Answers.{judgedAs, blankRun, acceptedRun}
+use Rattle.stepdown.specs.declared.Verdict.{Verdict}
+use Rattle.stepdown.specs.declared.Judged.{Judged}
+use Rattle.stepdown.specs.declared.FullRun.{FullRun}
 use Rattle.stepdown.proofs.Accepted.{NoneHolds}
 use Rattle.claims.specs.Firsts.{condition, number, FirstAt, First}
 
@@ -58,3 +64,20 @@ kept n new old h = ap (λ (b : Bool). cond b new old) (ne-eqb n 0 h)
 
 pub taken : {A : Type 0} (n : ℕ) (new old : A) → n ≡ 0 → cond (eqb n 0) new old ≡ new
 taken n new old h = ap (λ (b : Bool). cond b new old) (eq-eqb n 0 h)
+
+-- a full run tells the number that refuses it
+pub told-number : (n : ℕ) (r : FullRun) → r .refusal ≡ 0 → (cond (eqb n 0) r (blankRun n)) .refusal ≡ n
+told-number zero r h = h
+told-number (suc n) r h = ap (λ (b : Bool). (cond b r (blankRun (suc n))) .refusal) (ne-eqb (suc n) 0 (λ e. omega arith))
+
+-- the verdicts of an accepted run stand in the first places
+pub told-verdict : (o : Outcome) (j : ℕ) (d : Judged) (v : Verdict) → j < length (o .verdicts) → getD (acceptedRun o .judged) j d .verdict ≡ getD (o .verdicts) j v
+unfolding acceptedRun
+told-verdict o j d v h =
+    ap (λ (x : Judged). x .verdict) (List·getD-append (map judgedAs (o .verdicts)) _ d j (omega (arith, length-map (o .verdicts) judgedAs)))
+    ∙ inner (o .verdicts) j h
+  where
+    inner : (vs : List Verdict) (j : ℕ) → j < length vs → getD (map judgedAs vs) j d .verdict ≡ getD vs j v
+    inner [] j h = absurd (omega arith)
+    inner (x ∷ vs) zero h = refl
+    inner (x ∷ vs) (suc j) h = inner vs j (omega arith)

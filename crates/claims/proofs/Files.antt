@@ -2,8 +2,9 @@
 --   same-trimmed       a trial, and the same trial with zero in the places that its counts don't use
 --   file-written       an accepted trial in a buffer that is long enough
 --   write-back, read-back      the two round trips, through the lent buffer
+--   read-number        what reading answers
 --   cut-off            more bytes than one above the longest file change nothing
-use Prim.Native.Nat.{ℕ, _+_, _-_, _*_, _%_, _≤_, _<_}
+use Prim.Native.Nat.{ℕ, zero, suc, _+_, _-_, _*_, _%_, _≤_, _<_}
 use native.Mathlib.Omega.{arith}
 use native.Mathlib.Decide.{decLe}
 use mathlib.Core.Path.{_≡_, refl, sym, ap, ap₂, _∙_, subst}
@@ -24,6 +25,7 @@ use Rattle.trialfile.specs.Words.{Bytes, wordsOf}
 use Rattle.trialfile.specs.Files.{longest, badLength, placeChecks, trialOf, fileRefusal, answered, readingOf, wordsBefore}
 use Rattle.trialfile.specs.Writings.{fileOf, fileLength, trimmed, writingOf, afterWriting}
 use Rattle.trialfile.specs.declared.Reading.{Reading}
+use Rattle.trialfile.specs.declared.Writing.{Writing}
 use Rattle.trialfile.proofs.Parts.{parts}
 use Rattle.trialfile.proofs.Writes.{writing-done}
 use Rattle.trialfile.proofs.Written.{fileLength-is}
@@ -55,8 +57,10 @@ module _ (t : Trial) (ty : Typed t) (h : trialRefusal t ≡ 0) where
         ap (take (fileLength t)) (sym (file-written .1))
         ∙ take-at (fileOf t) (drop (length (fileOf t)) buf) (fileLength t) (fileLength-is t ty h)
 
-    pub write-back : readingOf (take (fileLength t) (afterWriting t buf)) ≡ answered 0 (trimmed t)
-    write-back = ap readingOf file-left ∙ write-read t ty h
+    pub write-back : readingOf (take ((writingOf t (length buf)) .length) (afterWriting t buf)) ≡ answered 0 (trimmed t)
+    write-back =
+        ap (λ (w : Writing). readingOf (take (w .length) (afterWriting t buf))) (sym (file-written .0))
+        ∙ ap readingOf file-left ∙ write-read t ty h
 
 module _ (bytes : List ℕ) (b : Bytes bytes) (h : fileRefusal bytes ≡ 0) where
   file-again : fileOf (trialOf (wordsOf bytes)) ≡ bytes
@@ -70,8 +74,7 @@ module _ (bytes : List ℕ) (b : Bytes bytes) (h : fileRefusal bytes ≡ 0) wher
     written-again =
         let r : fileLength (trialOf (wordsOf bytes)) ≤ length buf = omega (arith, length-again) in
         let ty = read-typed bytes h in
-        let ok = read-accepted bytes h in
-        (
+        let ok = read-accepted bytes h in (
           sym (file-written (trialOf (wordsOf bytes)) ty ok buf r .0) ∙ ap (λ (n : ℕ). record { refusal = 0; length = n }) length-again,
           ap (λ (n : ℕ). take n (afterWriting (trialOf (wordsOf bytes)) buf)) (sym length-again) ∙ file-left (trialOf (wordsOf bytes)) ty ok buf r ∙ file-again,
         )
@@ -80,6 +83,14 @@ module _ (bytes : List ℕ) (b : Bytes bytes) (h : fileRefusal bytes ≡ 0) wher
     read-back =
         subst (λ (t : Trial). (writingOf t (length buf) ≡ record { refusal = 0; length = length bytes }) × (take (length bytes) (afterWriting t buf) ≡ bytes))
         (sym (ap (λ (r : Reading). r .trial) (read-taken bytes h))) written-again
+
+pub read-number : (bytes : List ℕ) → (readingOf bytes) .refusal ≡ fileRefusal bytes
+unfolding readingOf
+read-number bytes = go (fileRefusal bytes)
+  where
+    go : (n : ℕ) → (answered n (trialOf (wordsOf bytes))) .refusal ≡ n
+    go zero = refl
+    go (suc n) = refl
 
 -- ---- input that is longer than any file
 
