@@ -4,13 +4,13 @@
 --   entry t columns h j        the value of a table t in row h and column j
 --   SameOn idle rows columns t u      two tables agree in all their idle columns
 --   difference t i j           the difference of offer i in pair j, both from 0
---   Keeps t u                  two trials agree in all but their differences
+--   Keeps t u                  two trials agree in all but their differences, at the places that the counts use
 --   ExchangedOn idle g t u     u's idle differences are those of t, that of pair j (from 0) with its sign changed where bit j of g is 1
 use Prim.Native.Nat.{ℕ, _+_, _*_, _<_}
 use mathlib.Core.Path.{_≡_}
 use mathlib.Core.Bool.{Bool, _&&_}
 use mathlib.Core.List.{List}
-use lib.ListN.{length, getD}
+use lib.ListN.{length, getD, take}
 use lib.Dec.{leb, T}
 use lib.Ieee.{Float, nan}
 use lib.IntN.{ℤ, pos}
@@ -50,8 +50,8 @@ pub record Keeps (t u : Trial) : Type 0 where
   pub tolerance : u .k ≡ t .k
   pub offers : u .offers ≡ t .offers
   pub pairs : u .pairs ≡ t .pairs
-  pub codes : u .codes ≡ t .codes
-  pub digits : u .digits ≡ t .digits
+  pub codes : take (t .offers) (u .codes) ≡ take (t .offers) (t .codes)
+  pub digits : take (t .offers) (u .digits) ≡ take (t .offers) (t .digits)
 
 abbrev pub ExchangedOn : (ℕ → Bool) → ℕ → Trial → Trial → Type 0
 ExchangedOn idle g t u =
