@@ -1,17 +1,28 @@
 -- The trial W of document 01 as a record: places that its counts don't use hold zero. Definitions only.
+--   trialWith a b k    W at level a/b with tolerance k
+--   trialW             W as printed: at 1/4 with k 1
+--   settings           the settings of the starred examples of W: a, b and k
+use Prim.Native.Nat.{ℕ}
 use mathlib.Core.List.{List, [], _∷_}
 use lib.ListN.{replicate}
 use lib.IntN.{pos, negsuc}
 use Rattle.trial.specs.declared.Trial.{Trial}
 
-unfoldable pub trialW : Trial
-trialW = record {
-  a = 1;
-  b = 4;
-  k = 1;
+abbrev pub trialWith : ℕ → ℕ → ℕ → Trial
+trialWith a b k = record {
+  a = a;
+  b = b;
+  k = k;
   offers = 2;
   pairs = 3;
   codes = 42 ∷ 7 ∷ replicate 14 0;
   digits = 4 ∷ 1 ∷ replicate 14 0;
   differences = pos 5 ∷ pos 3 ∷ pos 4 ∷ pos 2 ∷ negsuc 0 ∷ pos 1 ∷ replicate 138 (pos 0);
 }
+
+unfoldable pub trialW : Trial
+trialW = trialWith 1 4 1
+
+-- as printed; at 1/8; at 1/9; at 7/8; with k 2; with k 2 at 1/9
+unfoldable pub settings : List (ℕ × ℕ × ℕ)
+settings = (1, 4, 1) ∷ (1, 8, 1) ∷ (1, 9, 1) ∷ (7, 8, 1) ∷ (1, 4, 2) ∷ (1, 9, 2) ∷ []
