@@ -3,7 +3,7 @@
 A value is the 16 hexadecimal digits of its bits without the zeros at the end (4.0 is 401, minus
 zero is 8). A lent buffer of f64 is printed in full up to 16 places; a longer one, one of bytes, and
 text of more bytes than it may have, stand as #LENGTH:CHECKSUM, Adler-32. In a list the blank places
-are left out, and a place after them is told by its number, as @3:5.
+are left out, and a place after them is told by its number, as @3:5. A report is printed as it is.
 """
 
 import struct
@@ -39,8 +39,12 @@ def _(case: FileCase) -> str:
     trial = answers["read"]
     number = number_of(trial)
     printed = trial_text(BLANK_TRIAL if number else trial)
+    report, buffer = answers["report"]
+    length = 0 if number_of(report) else len(report)
     return (f"read {number}{printed}\n"
-            f"run{folded(printed, 0)}{run_text(answers['full_run'])}\n")
+            f"run{folded(printed, 0)}{folded(run_text(answers['full_run']), 0)}\n"
+            f"report {number_of(report)} {length}{checksum(buffer, len(buffer))}\n"
+            + buffer[:length].decode())
 
 
 @text.register

@@ -18,10 +18,11 @@ def expected(case) -> dict:
 @expected.register
 def _(case: FileCase) -> dict:
     buffer = bytearray([MARK]) * case.buffer_room
+    text = bytearray([MARK]) * case.report_room
     answer = trialfile.read(case.data)
     return {"read": answer,
             "full_run": answer if isinstance(answer, Refused) else trial.full_run(answer),
-            "report": report.report(case.data),
+            "report": (report.lent_report(case.data, text), bytes(text)),
             "c_call": (ccall.trial_verdicts(case.data, buffer), bytes(buffer))}
 
 

@@ -4,7 +4,7 @@ A frame is its kind and the length of its body (4 bytes each), then the body.
 Numbers are little-endian and have 8 bytes where nothing else is said:
 
 kind 0  the seed
-kind 1  a file: the room of a lent byte buffer, then the file's bytes
+kind 1  a file: the room of the report's buffer, then the file's bytes
 kind 2  a record: the rooms of file, table and work buffer; a, b, k, offers, pairs;
         16 codes (4 bytes each), 16 printed digits (a byte each), 144 differences (4 bytes each)
 kind 3  a table; kind 5 a step; kind 6 a run by steps: rows, columns, k, a, b, observed, the
@@ -52,7 +52,7 @@ def frame(case) -> bytes:
 
 @frame.register
 def _(case: FileCase) -> bytes:
-    return framed(1, numbers(case.buffer_room) + case.data)
+    return framed(1, numbers(case.report_room) + case.data)
 
 
 @frame.register

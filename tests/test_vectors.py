@@ -14,6 +14,7 @@ from generators import files, records
 from generators.kinds import BeginCase, FileCase, RecordCase, StepCase, TableCase, WalkCase
 from make_vectors import CRATE, files as made_files
 from reference.refusals import Refused, breaks_3, table_breaks_4
+from reference.report import report
 from reference.run import CLAUSES_OF_14, clauses_broken
 from reference.trial import full_run, trial_refusal
 from reference.trialfile import bytes_of, read, words_of, write
@@ -138,6 +139,16 @@ class Covered(unittest.TestCase):
         shapes = {(trial.offers, trial.pairs, trial.k) for case in self.of(FileCase)
                   if not isinstance(trial := read(case.data), Refused)}
         self.assertEqual(len(shapes), sum(9 * min(4, offers) for offers in range(1, 17)))
+
+    def test_reports(self):
+        """Buffers with room to spare, that just fit, and too short, for trials and refused files."""
+        for accepted in (True, False):
+            cases = [case for case in self.of(FileCase)
+                     if case.report_room < files.LONGEST_REPORT
+                     and (number_of(read(case.data)) == 0) == accepted]
+            spare = Counter(case.report_room - len(report(case.data)) for case in cases)
+            self.assertTrue(all(spare[n] >= 50 for n in (-1, 0, 1)), spare)
+            self.assertTrue(any(case.report_room == 0 for case in cases))
 
     def test_styles(self):
         for style in ("ties", "equal_offers", "zeros", "opposite_offers", "ladder"):

@@ -5,9 +5,9 @@ from dataclasses import replace
 from reference.trial import make_trial, table_of
 from reference.trialfile import bytes_of, write
 
+from .files import LONGEST_REPORT, W
 from .kinds import BeginCase, FileCase, RecordCase, TableCase, WalkCase
 
-W = make_trial((1, 4), 1, [("0042", (5, 3, 4)), ("7", (2, -1, 1))])
 W_WORDS = (0x10004004, 0x20010203, 0x3400002A, 0x31000007, 0x40000005, 0x40000003, 0x40000004,
            0x40000002, 0x4FFFFFFF, 0x40000001, 0xF000000A)
 P = tuple(map(float, (9, 8, 3, 4, 1, 2, 0, 4, 5, 1, 0, 1)))
@@ -21,11 +21,11 @@ def example_cases(_rng):
 
 def starred():
     """The examples that are proved too."""
-    yield FileCase("example-w", bytes_of(W_WORDS), 16)
+    yield FileCase("example-w", bytes_of(W_WORDS), 16, LONGEST_REPORT)
     for name, change in (("as-printed", {}), ("1-8", dict(b=8)), ("1-9", dict(b=9)),
                          ("7-8", dict(a=7, b=8)), ("k2", dict(k=2)), ("k2-1-9", dict(k=2, b=9))):
         trial = replace(W, **change)
-        yield FileCase(f"example-w-file-{name}", write(trial), 2)
+        yield FileCase(f"example-w-file-{name}", write(trial), 2, LONGEST_REPORT)
         yield RecordCase(f"example-w-record-{name}", trial, 44, 16, 8)
         yield WalkCase(f"example-w-walk-{name}", tuple(table_of(trial)), 8, 2, trial.k, trial.a,
                        trial.b, 0, 8)
@@ -40,7 +40,8 @@ def starred():
 def unstarred():
     """The ends of the ranges: pairs, offers, codes, rows."""
     for offers, pairs in ((1, 9), (1, 10), (16, 1), (17, 1), (16, 9)):
-        yield FileCase(f"example-{offers}-offers-{pairs}-pairs", shaped(offers, pairs), 16)
+        yield FileCase(f"example-{offers}-offers-{pairs}-pairs", shaped(offers, pairs), 16,
+                       LONGEST_REPORT)
     for change in (dict(pairs=9), dict(pairs=10), dict(offers=16), dict(offers=17)):
         name = "-".join(f"{field}-{value}" for field, value in change.items())
         codes = tuple(range(16))
@@ -51,7 +52,7 @@ def unstarred():
         trial = replace(trial, digits=(7,) + trial.digits[1:])
         yield RecordCase(f"example-record-code-{code}", trial, 20, 2, 2)
         words = (1 << 28 | 1 << 14 | 2, 0x20010101, 0x37000000 | code, 0x40000001, 0xF0000004)
-        yield FileCase(f"example-code-{code}", bytes_of(words), 1)
+        yield FileCase(f"example-code-{code}", bytes_of(words), 1, LONGEST_REPORT)
     for rows in (4096, 4097):
         values = tuple(float(g) for g in range(rows))
         yield BeginCase(f"example-begin-{rows}", rows, 1, 1, 1, 4096, rows - 1)

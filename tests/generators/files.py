@@ -2,6 +2,7 @@
 
 from itertools import combinations
 
+from reference.report import report
 from reference.trial import make_trial
 from reference.trialfile import bytes_of, words_of, write
 
@@ -9,6 +10,7 @@ from .kinds import FileCase
 from .trials import some_trial, valid_trials
 
 KINDS = range(16)
+LONGEST_REPORT = 3000  # and some more
 W = make_trial((1, 4), 1, [("0042", (5, 3, 4)), ("7", (2, -1, 1))])
 # Three offers and two pairs: room for an earlier and a later bad place of each sort.
 BASE = make_trial((2, 8), 2, [("007", (4, 5)), ("42", (3, 1)), ("100", (-2, 6))])
@@ -18,9 +20,17 @@ def file_cases(rng):
     """All file cases."""
     for name, trial in valid_trials(rng):
         room = rng.choice((0, trial.offers - 1, trial.offers, 16, 16, 16, 16, 20))
-        yield FileCase(f"file-valid-{name}", write(trial), room)
+        data = write(trial)
+        yield FileCase(f"file-valid-{name}", data, room, report_room(rng, data, trial.pairs))
     for name, data in damaged(rng):
-        yield FileCase(f"file-{name}", data, rng.choice((0, 1, 16)))
+        yield FileCase(f"file-{name}", data, rng.choice((0, 1, 16)), report_room(rng, data))
+
+
+def report_room(rng, data, pairs=1):
+    """Room for the report: plenty, or, where it is quickly known, as much as it takes or near that."""
+    if pairs > 5 or rng.random() < 0.5:
+        return LONGEST_REPORT
+    return max(0, len(report(data)) + rng.choice((-1, -1, 0, 0, 0, 1, 9, -1000)))
 
 
 def damaged(rng):

@@ -8,11 +8,12 @@ from reference.trial import Trial
 
 @dataclass(frozen=True)
 class FileCase:
-    """Bytes for the reader, the report and the C call with a buffer of so many bytes."""
+    """Bytes for the reader, the C call with a buffer of so many bytes, and the report with another."""
 
     name: str
     data: bytes
     buffer_room: int
+    report_room: int
 
 
 @dataclass(frozen=True)

@@ -1,7 +1,7 @@
 """The report program's text (document 01, "Report and C call")."""
 
 from .method import level_rows
-from .refusals import Refused
+from .refusals import Refused, fill, too_short
 from .table import FullRun, Rejected
 from .trial import Trial, full_run, rows_of
 from .trialfile import read
@@ -13,6 +13,15 @@ def report(data: bytes) -> str:
     if isinstance(trial, Refused):
         return f"refused {trial.number}\n"
     return "".join(f"{line}\n" for line in report_lines(trial, full_run(trial)))
+
+
+def lent_report(data: bytes, buffer: bytearray):
+    """The report as bytes, laid in the lent buffer's first places; or refusal 12."""
+    text = report(data).encode()
+    if too_short(buffer, len(text)):
+        return Refused(12)
+    fill(buffer, text)
+    return text
 
 
 def report_lines(trial: Trial, run: FullRun) -> list:

@@ -14,7 +14,7 @@ fn sizes(out: &mut [u8], at: usize, r: Run) -> usize {
     text::number(out, m, r.k)
 }
 
-fn level(out: &mut [u8], at: usize, r: Run) -> usize {
+fn level_and_row(out: &mut [u8], at: usize, r: Run) -> usize {
     let n = text::number(out, at, r.a);
     let m = text::number(out, n, r.b);
     text::number(out, m, r.observed)
@@ -23,7 +23,7 @@ fn level(out: &mut [u8], at: usize, r: Run) -> usize {
 // A run: its figures, its rejected set, its steps, whether it has ended.
 pub(crate) fn run(out: &mut [u8], at: usize, r: Run) -> usize {
     let mut n = sizes(out, at, r);
-    n = level(out, n, r);
+    n = level_and_row(out, n, r);
     n = text::number(out, n, r.rejected as usize);
     n = text::number(out, n, r.steps);
     if r.ended {

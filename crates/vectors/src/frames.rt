@@ -3,7 +3,7 @@ use super::bits;
 ghost use Prim.Native.Nat.{_<_};
 ghost use Rattle.vectors.specs.Parts.{Within};
 
-fn wide(x: u8) -> u64
+pub(crate) fn wide(x: u8) -> u64
     ensures { λ r. ⌜ r < 256 ⌝ }
 {
     x as u64

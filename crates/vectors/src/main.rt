@@ -2,7 +2,7 @@
 // A frame is its kind and the length of its body, 4 bytes each, then the body.
 mod answers; // runs, records and full runs as text
 mod bits; // f64 values and their bits
-mod files; // cases of the reader and of a file's full run
+mod files; // cases of a file: reader, full run, report
 mod frames; // the numbers of a frame
 mod lent; // lent buffers: marked before a call, printed after it
 mod lists; // lists without their blank places
@@ -45,15 +45,15 @@ fn over_table(
 fn answer(
     kind: u64,
     body: &[u8],
-    file: &mut [u8],
+    buffer: &mut [u8],
     cells: &mut [f64],
     work: &mut [f64],
     out: &mut [u8],
 ) -> usize {
     match kind {
         0 => seed(body, out),
-        1 => files::answer(body, out),
-        2 => records::answer(body, file, cells, work, out),
+        1 => files::answer(body, buffer, out),
+        2 => records::answer(body, buffer, cells, work, out),
         4 => runs::answer_begin(body, out),
         3 | 5 | 6 => over_table(kind, body, cells, work, out),
         _ => text::bytes(out, 0, b"no such kind\n"),
@@ -69,7 +69,7 @@ fn print(out: &[u8], n: usize) -> bool {
 fn framed(
     kind: u64,
     body: &mut [u8],
-    file: &mut [u8],
+    buffer: &mut [u8],
     cells: &mut [f64],
     work: &mut [f64],
     out: &mut [u8],
@@ -78,14 +78,14 @@ fn framed(
     if got < body.len() {
         return false;
     }
-    let n = answer(kind, body, file, cells, work, out);
+    let n = answer(kind, body, buffer, cells, work, out);
     print(out, n)
 }
 
 // One frame. False where the input ends.
 fn one(
     body: &mut [u8],
-    file: &mut [u8],
+    buffer: &mut [u8],
     cells: &mut [f64],
     work: &mut [f64],
     out: &mut [u8],
@@ -97,20 +97,20 @@ fn one(
     }
     let kind = frames::short(&head, 0);
     let size = frames::bytes_of(frames::short(&head, 4) as usize, body);
-    framed(kind, &mut body[..size], file, cells, work, out)
+    framed(kind, &mut body[..size], buffer, cells, work, out)
 }
 
 // Frames until the input ends.
 fn every_frame(
     body: &mut [u8],
-    file: &mut [u8],
+    buffer: &mut [u8],
     cells: &mut [f64],
     work: &mut [f64],
     out: &mut [u8],
 ) {
     let mut left: u32 = 1000000;
     while 0 < left {
-        if one(body, file, cells, work, out) {
+        if one(body, buffer, cells, work, out) {
             left -= 1;
         } else {
             left = 0;
@@ -118,12 +118,12 @@ fn every_frame(
     }
 }
 
-// The buffers are those of the largest cases: 4,096 rows of 33 columns, a file of 652 bytes and some more.
+// The buffers are those of the largest cases: 4,096 rows of 33 columns, a report of 3,000 bytes, and some more.
 fn main() {
     let mut body = [0u8; 65536];
-    let mut file = [0u8; 1024];
+    let mut buffer = [0u8; 3072];
     let mut cells = [0.0f64; 135168];
     let mut work = [0.0f64; 4104];
     let mut out = [0u8; 65536];
-    every_frame(&mut body, &mut file, &mut cells, &mut work, &mut out);
+    every_frame(&mut body, &mut buffer, &mut cells, &mut work, &mut out);
 }

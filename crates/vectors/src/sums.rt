@@ -1,13 +1,10 @@
 // The checksum Adler-32, of bytes and of the bytes of f64 values.
 use super::bits;
+use super::frames;
 
 pub(crate) struct Sum {
     pub a: u64,
     pub b: u64,
-}
-
-fn wide(x: u8) -> u64 {
-    x as u64
 }
 
 // One byte more, the lowest of n.
@@ -45,7 +42,7 @@ pub(crate) fn of_bytes(xs: &[u8]) -> u64 {
     let mut s = start();
     let mut i: usize = 0;
     while i < xs.len() {
-        s = with_byte(s, wide(xs[i]));
+        s = with_byte(s, frames::wide(xs[i]));
         i += 1;
     }
     number_of(s)

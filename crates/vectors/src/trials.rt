@@ -5,10 +5,6 @@ use super::lists;
 use super::text;
 use trial::Trial;
 
-fn wide(x: u8) -> u64 {
-    x as u64
-}
-
 fn codes(out: &mut [u8], at: usize, xs: [u32; 16]) -> usize {
     let mut l = lists::start(at);
     let mut i: usize = 0;
@@ -24,7 +20,7 @@ fn digits(out: &mut [u8], at: usize, xs: [u8; 16]) -> usize {
     let mut l = lists::start(at);
     let mut i: usize = 0;
     while i < 16 {
-        l = lists::number(out, l, i, false, wide(xs[i]));
+        l = lists::number(out, l, i, false, frames::wide(xs[i]));
         i += 1;
     }
     l.at

@@ -6,10 +6,10 @@ use Rattle.vectors.proofs.every_frame.Statement.{statement}
 use Rattle.vectors.proofs.every_frame.Tie as tie
 
 abbrev Inv-loop : tie.InvT-loop
-Inv-loop body₀ file₀ cells₀ work₀ out₀ left₀ body file cells work out left = (length body ≡ length body₀) × (length file ≡ length file₀) × (length cells ≡ length cells₀) × (length work ≡ length work₀) × (length out ≡ length out₀)
+Inv-loop body₀ buffer₀ cells₀ work₀ out₀ left₀ body buffer cells work out left = (length body ≡ length body₀) × (length buffer ≡ length buffer₀) × (length cells ≡ length cells₀) × (length work ≡ length work₀) × (length out ≡ length out₀)
 
 abbrev μ-loop : tie.MeasureT-loop
-μ-loop body₀ file₀ cells₀ work₀ out₀ left₀ body file cells work out left = left
+μ-loop body₀ buffer₀ cells₀ work₀ out₀ left₀ body buffer cells work out left = left
 
 loop-holds : tie.Need-loop-holds Inv-loop μ-loop
 loop-holds c = search needs
