@@ -1,0 +1,185 @@
+/* Full runs of tables. A set of columns is a list of column numbers. */
+#include <math.h>
+#include <string.h>
+
+#include "baseline.h"
+
+int bad_level(size_t a, size_t b)
+{
+    return a == 0 || b == 0 || a >= b || b > MOST_B;
+}
+
+size_t allowance(size_t rows, size_t a, size_t b)
+{
+    return rows * a / b;
+}
+
+static int bad_shape(const struct table *t)
+{
+    return t->rows < 1 || t->rows > MOST_ROWS || t->columns < 1 || t->columns > MOST_COLUMNS || t->k < 1 ||
+           t->k > MOST_K || t->k > t->columns;
+}
+
+static int all_finite(const double *values, size_t n)
+{
+    for (size_t i = 0; i < n; i++)
+        if (!isfinite(values[i]))
+            return 0;
+    return 1;
+}
+
+/* 4, 3, 9, 10, 11, 12. */
+static uint32_t refusal_of(const struct table *t)
+{
+    if (bad_shape(t))
+        return 4;
+    if (bad_level(t->a, t->b))
+        return 3;
+    if (t->length != t->rows * t->columns)
+        return 9;
+    if (t->observed >= t->rows)
+        return 10;
+    if (!all_finite(t->values, t->length))
+        return 11;
+    if (t->places < t->rows)
+        return 12;
+    return 0;
+}
+
+/* Plus zero for either zero. */
+static double plus_zero(double x)
+{
+    return x == 0 ? 0 : x;
+}
+
+/* The k-th largest value of a row over the n columns of a set. */
+static double k_max(const double *row, const uint8_t *set, size_t n, size_t k)
+{
+    double top[MOST_K] = {-INFINITY, -INFINITY, -INFINITY, -INFINITY}; /* the k largest so far, in falling order */
+    for (size_t i = 0; i < n; i++) {
+        double x = row[set[i]];
+        if (x <= top[k - 1])
+            continue;
+        size_t j = k - 1;
+        for (; j > 0 && top[j - 1] < x; j--)
+            top[j] = top[j - 1];
+        top[j] = x;
+    }
+    return top[k - 1];
+}
+
+static double middle(double x, double y, double z)
+{
+    if (x < y)
+        return y < z ? y : x < z ? z : x;
+    return x < z ? x : y < z ? z : y;
+}
+
+/* The m-th smallest of n values, m from 0, by quickselect with the middle of three as the pivot. Reorders the values. */
+static double select_smallest(double *v, size_t n, size_t m)
+{
+    ptrdiff_t low = 0, high = (ptrdiff_t)n - 1, want = (ptrdiff_t)m;
+    while (low < high) {
+        double pivot = middle(v[low], v[low + (high - low) / 2], v[high]);
+        ptrdiff_t i = low, j = high;
+        while (i <= j) {
+            while (v[i] < pivot)
+                i++;
+            while (pivot < v[j])
+                j--;
+            if (i <= j) {
+                double x = v[i];
+                v[i++] = v[j];
+                v[j--] = x;
+            }
+        }
+        if (want <= j)
+            high = j;
+        else if (want >= i)
+            low = i;
+        else
+            break;
+    }
+    return v[want];
+}
+
+/* c(K): the (M - e)-th smallest k-max over the n columns of a set. */
+static double critical_value(const struct table *t, const uint8_t *set, size_t n)
+{
+    size_t e = allowance(t->rows, t->a, t->b);
+    for (size_t g = 0; g < t->rows; g++)
+        t->work[g] = k_max(t->values + g * t->columns, set, n, t->k);
+    return plus_zero(select_smallest(t->work, t->rows, t->rows - e - 1));
+}
+
+/*
+ * The largest of `best` and the critical values of the set, of n columns, with each choice of `more` of the rejected
+ * columns: one is chosen and then, with one fewer to choose, later ones.
+ */
+static double put_back(const struct table *t, struct full_run *run, uint8_t *set, size_t n, const uint8_t *rejected,
+                       size_t left, size_t more, double best)
+{
+    if (more == 0) {
+        run->sets++;
+        double c = critical_value(t, set, n);
+        return c > best ? c : best;
+    }
+    for (size_t i = 0; i + more <= left; i++) {
+        set[n] = rejected[i];
+        best = put_back(t, run, set, n + 1, rejected + i + 1, left - i - 1, more - 1, best);
+    }
+    return best;
+}
+
+/* The critical value of the next step. Before step 1 nothing is rejected, and nothing is put back. */
+static double next_critical_value(const struct table *t, struct full_run *run)
+{
+    uint8_t set[MOST_COLUMNS], rejected[MOST_COLUMNS];
+    size_t kept = 0, gone = 0;
+    for (size_t j = 0; j < t->columns; j++) {
+        if (run->step[j] == 0)
+            set[kept++] = (uint8_t)j;
+        else
+            rejected[gone++] = (uint8_t)j;
+    }
+    return put_back(t, run, set, kept, rejected, gone, run->steps == 0 ? 0 : t->k - 1, -INFINITY);
+}
+
+/* One step; answers whether the run goes on. */
+static int step(const struct table *t, struct full_run *run)
+{
+    const double *seen = t->values + t->observed * t->columns;
+    double c = next_critical_value(t, run);
+    size_t before = run->rejected;
+    run->critical[run->steps++] = c;
+    for (size_t j = 0; j < t->columns; j++) {
+        if (run->step[j] == 0 && seen[j] > c) {
+            run->step[j] = (uint8_t)run->steps;
+            run->rejected++;
+        }
+    }
+    return run->rejected > before && run->rejected >= t->k && run->rejected < t->columns;
+}
+
+/* How many rows reach each column's observed value. */
+static void count_rows(const struct table *t, struct full_run *run)
+{
+    const double *seen = t->values + t->observed * t->columns;
+    for (size_t g = 0; g < t->rows; g++)
+        for (size_t j = 0; j < t->columns; j++)
+            run->count[j] += t->values[g * t->columns + j] >= seen[j];
+}
+
+uint32_t run_table(const struct table *t, struct full_run *run)
+{
+    uint32_t refusal = refusal_of(t);
+    memset(run, 0, sizeof *run);
+    if (refusal != 0)
+        return refusal;
+    while (step(t, run))
+        ;
+    for (size_t g = 0; g < t->rows; g++)
+        t->work[g] = 0;
+    count_rows(t, run);
+    return 0;
+}
