@@ -21,3 +21,11 @@ vectors:
 host:
 	@rt staticlib host
 	@gcc -Wall -Wextra -Werror -O2 -Iinclude samples/host.c target/staticlib/libhost.a -o target/host
+
+# The benchmark (docs/BENCHMARKS.md): the library, which `rt staticlib` compiles at -O3, against the plain C of tests/baseline, gcc -O3.
+.PHONY: bench
+bench:
+	@rt staticlib host
+	@rt staticlib benchcalls
+	@gcc -std=c11 -Wall -Wextra -Werror -O3 -Wl,-z,now -Iinclude -Itests/baseline tests/baseline/*.c tests/bench/*.c target/staticlib/libhost.a target/staticlib/libbenchcalls.a -o target/bench
+	@target/bench

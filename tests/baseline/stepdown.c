@@ -134,7 +134,7 @@ static double put_back(const struct table *t, struct full_run *run, uint8_t *set
 /* The critical value of the next step. Before step 1 nothing is rejected, and nothing is put back. */
 static double next_critical_value(const struct table *t, struct full_run *run)
 {
-    uint8_t set[MOST_COLUMNS], rejected[MOST_COLUMNS];
+    uint8_t set[MOST_COLUMNS] = {0}, rejected[MOST_COLUMNS] = {0};
     size_t kept = 0, gone = 0;
     for (size_t j = 0; j < t->columns; j++) {
         if (run->step[j] == 0)

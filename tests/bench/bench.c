@@ -1,0 +1,173 @@
+/*
+ * The benchmark: the library against the baseline, in one run and on the same inputs (docs/BENCHMARKS.md).
+ *
+ *   bench                 compares all answers, then measures and prints tables
+ *   bench TASK CALL       makes the input of a task and a call, 0 the baseline's, 1 the library's, 2 none, and prints the
+ *                         process's peak memory in KiB
+ */
+#include <stdio.h>
+#include <stdlib.h>
+#include <unistd.h>
+
+#include "measure.h"
+#include "tasks.h"
+
+static const struct task tasks[] = {
+    {"Full runs of tables", 0, "512 x 16", RUN, {WINNERS, 512, 16, 1, 8}},
+    {NULL, 0, "512 x 16", RUN, {WINNERS, 512, 16, 3, 8}},
+    {NULL, 0, "4096 x 32", RUN, {WINNERS, 4096, 32, 1, 22}},
+    {NULL, 0, "4096 x 32", RUN, {WINNERS, 4096, 32, 4, 22}},
+    {NULL, 0, "4096 x 32, ladder", RUN, {LADDER, 4096, 32, 1, 0}},
+    {NULL, 0, "4096 x 32, ladder", RUN, {LADDER, 4096, 32, 4, 0}},
+    {"A largest file", 0, "verdicts for C", VERDICTS, {.k = 4}},
+    {NULL, 0, "report", REPORT, {.k = 1}},
+    {NULL, 0, "report", REPORT, {.k = 4}},
+    {NULL, 0, "report, opposite offers", REPORT, {VALLEY, .k = 4}},
+    {NULL, 0, "reading", READING, {.k = 4}},
+    {NULL, 0, "writing", WRITING, {.k = 4}},
+    {"Growth with rows", 1, "256 x 16", RUN, {WINNERS, 256, 16, 2, 8}},
+    {NULL, 1, "512 x 16", RUN, {WINNERS, 512, 16, 2, 8}},
+    {NULL, 1, "1024 x 16", RUN, {WINNERS, 1024, 16, 2, 8}},
+    {NULL, 1, "2048 x 16", RUN, {WINNERS, 2048, 16, 2, 8}},
+    {NULL, 1, "4096 x 16", RUN, {WINNERS, 4096, 16, 2, 8}},
+    {"Growth with columns", 1, "1024 x 4", RUN, {WINNERS, 1024, 4, 2, 3}},
+    {NULL, 1, "1024 x 8", RUN, {WINNERS, 1024, 8, 2, 3}},
+    {NULL, 1, "1024 x 16", RUN, {WINNERS, 1024, 16, 2, 3}},
+    {NULL, 1, "1024 x 32", RUN, {WINNERS, 1024, 32, 2, 3}},
+    {"Growth with k", 1, "1024 x 32", RUN, {WINNERS, 1024, 32, 1, 24}},
+    {NULL, 1, "1024 x 32", RUN, {WINNERS, 1024, 32, 2, 24}},
+    {NULL, 1, "1024 x 32", RUN, {WINNERS, 1024, 32, 3, 24}},
+    {NULL, 1, "1024 x 32", RUN, {WINNERS, 1024, 32, 4, 24}},
+    {"Order of the values", 0, "4096 x 1, any order", RUN, {LADDER, 4096, 1, 1, 0}},
+    {NULL, 0, "4096 x 1, rising", RUN, {RISING, 4096, 1, 1, 0}},
+    {NULL, 0, "4096 x 1, falling", RUN, {FALLING, 4096, 1, 1, 0}},
+    {NULL, 0, "4096 x 1, rising then falling", RUN, {PIPE, 4096, 1, 1, 0}},
+    {NULL, 0, "4096 x 1, falling then rising", RUN, {VALLEY, 4096, 1, 1, 0}},
+    {NULL, 0, "4096 x 1, built against narrowing", RUN, {AGAINST, 4096, 1, 1, 0}},
+    {NULL, 0, "4096 x 32, ladder built so", RUN, {AGAINST, 4096, 32, 1, 0}},
+};
+
+enum { TASKS = sizeof tasks / sizeof tasks[0] };
+
+static struct facts facts[TASKS];
+static struct timing timings[TASKS][BOTH];
+
+/* ---- printing */
+
+/* A time in a unit that suits it. */
+static const char *shown(char *text, size_t room, double seconds)
+{
+    if (seconds < 1e-3)
+        snprintf(text, room, "%.3g us", seconds * 1e6);
+    else if (seconds < 1)
+        snprintf(text, room, "%.3g ms", seconds * 1e3);
+    else
+        snprintf(text, room, "%.3g s", seconds);
+    return text;
+}
+
+/* A number, or nothing for zero. */
+static const char *counted(char *text, size_t room, size_t n)
+{
+    snprintf(text, room, n == 0 ? "" : "%zu", n);
+    return text;
+}
+
+static void print_head(const struct task *task)
+{
+    printf("\n%s\n\n", task->title);
+    printf("| %-33s | k | steps | rejected |  sets |  C least | C median | library least | library median |  ratio |",
+           "input");
+    puts(task->grows ? " C grows | library grows |" : "");
+    printf("|-----------------------------------|---|-------|----------|-------|----------|----------|---------------|"
+           "----------------|--------|");
+    puts(task->grows ? "---------|---------------|" : "");
+}
+
+static void print_times(size_t i)
+{
+    char cell[7][24];
+    const struct timing *c = &timings[i][BASELINE], *l = &timings[i][LIBRARY];
+    printf("| %-33s | %zu | %5s | %8s | %5s | %8s | %8s | %13s | %14s | %6.2f |", tasks[i].name, tasks[i].recipe.k,
+           counted(cell[0], sizeof cell[0], facts[i].steps), counted(cell[1], sizeof cell[1], facts[i].rejected),
+           counted(cell[2], sizeof cell[2], facts[i].sets), shown(cell[3], sizeof cell[3], c->least),
+           shown(cell[4], sizeof cell[4], c->median), shown(cell[5], sizeof cell[5], l->least),
+           shown(cell[6], sizeof cell[6], l->median), l->least / c->least);
+    if (tasks[i].grows && tasks[i].title != NULL)
+        printf(" %7s | %13s |", "", "");
+    else if (tasks[i].grows)
+        printf(" %7.2f | %13.2f |", c->least / timings[i - 1][BASELINE].least, l->least / timings[i - 1][LIBRARY].least);
+    putchar('\n');
+}
+
+/* ---- measuring */
+
+static void compare_all(void)
+{
+    for (size_t i = 0; i < TASKS; i++) {
+        prepare(&tasks[i]);
+        facts[i] = compare(&tasks[i]);
+    }
+    printf("%d inputs: the library and the baseline answer the same\n", (int)TASKS);
+}
+
+static void time_all(void)
+{
+    for (size_t i = 0; i < TASKS; i++) {
+        prepare(&tasks[i]);
+        time_both(calls_of(&tasks[i]), timings[i]);
+        if (tasks[i].title != NULL)
+            print_head(&tasks[i]);
+        print_times(i);
+        fflush(stdout);
+    }
+}
+
+static int by_size(const void *x, const void *y)
+{
+    long a = *(const long *)x, b = *(const long *)y;
+    return (a > b) - (a < b);
+}
+
+/* Peak memory of a process that makes the input of a task and one call: the median over processes, for a slow call one. */
+static long peak(size_t i, const char *which)
+{
+    enum { PROCESSES = 9 };
+    long peaks[PROCESSES];
+    char task[32];
+    size_t n = timings[i][LIBRARY].least > 0.1 ? 1 : PROCESSES;
+    snprintf(task, sizeof task, "%zu", i);
+    for (size_t p = 0; p < n; p++)
+        peaks[p] = number_of(task, which);
+    qsort(peaks, n, sizeof peaks[0], by_size);
+    return peaks[n / 2];
+}
+
+static void print_memory(void)
+{
+    puts("\nMemory: peak of a process with the input alone and with one call, in KiB; stack of the call, in bytes\n");
+    printf("| %-33s | k | input alone | with C | with library | C stack | library stack |\n", "input");
+    puts("|-----------------------------------|---|-------------|--------|--------------|---------|---------------|");
+    for (size_t i = 0; i < TASKS; i++)
+        if (!tasks[i].grows)
+            printf("| %-33s | %zu | %11ld | %6ld | %12ld | %7zu | %13zu |\n", tasks[i].name, tasks[i].recipe.k,
+                   peak(i, "2"), peak(i, "0"), peak(i, "1"), facts[i].stack[BASELINE], facts[i].stack[LIBRARY]);
+}
+
+int main(int argc, char **argv)
+{
+    if (argc == 3) {
+        const struct task *task = &tasks[atoi(argv[1])];
+        int which = atoi(argv[2]);
+        prepare(task);
+        if (which < BOTH)
+            calls_of(task)[which]();
+        printf("%ld\n", peak_so_far());
+        return 0;
+    }
+    printf("gcc %s, %ld cores\n", __VERSION__, sysconf(_SC_NPROCESSORS_ONLN));
+    compare_all();
+    time_all();
+    print_memory();
+    return 0;
+}

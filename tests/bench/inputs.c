@@ -1,0 +1,139 @@
+/* The inputs of the benchmark, made from a fixed seed. */
+#include <stdlib.h>
+#include <string.h>
+
+#include "inputs.h"
+#include "measure.h"
+
+enum { SEED = 20260101 };
+
+static uint64_t state;
+
+/* The next 64 bits of splitmix64. */
+static uint64_t draw(void)
+{
+    uint64_t z = state += 0x9E3779B97F4A7C15;
+    z = (z ^ z >> 30) * 0xBF58476D1CE4E5B9;
+    z = (z ^ z >> 27) * 0x94D049BB133111EB;
+    return z ^ z >> 31;
+}
+
+/* From 0 to below 1. */
+static double uniform(void)
+{
+    return (double)(draw() >> 11) / 9007199254740992.0;
+}
+
+/* About normal: a sum of twelve. */
+static double noise(void)
+{
+    double sum = -6;
+    for (int i = 0; i < 12; i++)
+        sum += uniform();
+    return sum;
+}
+
+static void make_winners(const struct recipe *r, double *values)
+{
+    for (size_t i = 0; i < r->rows * r->columns; i++)
+        values[i] = noise();
+    for (size_t j = 0; j < r->columns; j++)
+        values[j] = j < r->winners ? 100 + noise() : 0;
+}
+
+/* The lowest value of a column of a ladder. Values lie less than 50 above it, the observed one 60. */
+static double rung(const struct recipe *r, size_t j)
+{
+    return 100 * (double)(r->columns - j);
+}
+
+static void make_ladder(const struct recipe *r, double *values)
+{
+    for (size_t i = 0; i < r->rows * r->columns; i++)
+        values[i] = rung(r, i % r->columns) + 50 * uniform();
+}
+
+/* The ranks 0 to n - 1 by place: the least one left goes to the middle one of the places left. */
+static void middle_is_least(size_t *rank, size_t n)
+{
+    size_t *place = allocate(n * sizeof *place);
+    for (size_t i = 0; i < n; i++)
+        place[i] = i;
+    for (size_t least = 0; least < n; least++) {
+        size_t left = n - least, middle = left / 2;
+        rank[place[middle]] = least;
+        memmove(place + middle, place + middle + 1, (left - middle - 1) * sizeof *place);
+    }
+    free(place);
+}
+
+static void order(enum pattern pattern, size_t *rank, size_t n)
+{
+    if (pattern == AGAINST) {
+        middle_is_least(rank, n);
+        return;
+    }
+    for (size_t i = 0; i < n; i++) {
+        rank[i] = i;
+        if (pattern == PIPE || pattern == VALLEY)
+            rank[i] = i < n / 2 ? 2 * i : 2 * (n - 1 - i) + 1;
+        if (pattern == FALLING || pattern == VALLEY)
+            rank[i] = n - 1 - rank[i];
+    }
+}
+
+/* Answers the row that is largest in every column. */
+static size_t make_ordered(const struct recipe *r, double *values)
+{
+    size_t *rank = allocate(r->rows * sizeof *rank), largest = 0;
+    order(r->pattern, rank, r->rows);
+    for (size_t g = 0; g < r->rows; g++) {
+        if (rank[g] == r->rows - 1)
+            largest = g;
+        for (size_t j = 0; j < r->columns; j++)
+            values[g * r->columns + j] = rung(r, j) + 50 * (double)rank[g] / (double)r->rows;
+    }
+    free(rank);
+    return largest;
+}
+
+void make_table(const struct recipe *r, struct table *t)
+{
+    double *values = allocate(r->rows * r->columns * sizeof *values);
+    double *work = allocate(r->rows * sizeof *work);
+    size_t observed = 0;
+    state = SEED;
+    if (r->pattern == WINNERS)
+        make_winners(r, values);
+    else if (r->pattern == LADDER)
+        make_ladder(r, values);
+    else
+        observed = make_ordered(r, values);
+    if (r->pattern != WINNERS)
+        for (size_t j = 0; j < r->columns; j++)
+            values[observed * r->columns + j] = rung(r, j) + 60;
+    memset(work, 0, r->rows * sizeof *work);
+    *t = (struct table){values, r->rows * r->columns, r->rows, r->columns, r->k, 1, 20, observed, work, r->rows};
+}
+
+/* The difference of offer i in pair j. */
+static int32_t difference(enum pattern pattern, size_t i, size_t j)
+{
+    if (pattern == VALLEY) {
+        int32_t d = (int32_t)((16 + i / 2) << j);
+        return i % 2 == 0 ? d : -d;
+    }
+    return (int32_t)(i % 2 == 0 ? 60000 + 30000 * uniform() : 20000 * noise());
+}
+
+void make_trial(enum pattern pattern, size_t k, struct trial *t)
+{
+    state = SEED;
+    *t = (struct trial){.a = 1, .b = 20, .k = k, .offers = MOST_OFFERS, .pairs = MOST_PAIRS};
+    for (size_t i = 0; i < t->offers; i++) {
+        t->codes[i] = 9999999 - 7919 * (uint32_t)i;
+        t->digits[i] = MOST_DIGITS;
+        for (size_t j = 0; j < t->pairs; j++)
+            t->differences[i * t->pairs + j] = difference(pattern, i, j);
+    }
+}

@@ -1,0 +1,42 @@
+/* What is measured: an input, the two calls on it, and the comparison of their answers. */
+#ifndef TASKS_H
+#define TASKS_H
+
+#include "inputs.h"
+#include "measure.h"
+
+enum kind {
+    RUN,      /* full run of a table */
+    VERDICTS, /* the call for C on a largest file */
+    REPORT,   /* its report */
+    READING,
+    WRITING,
+    KINDS
+};
+
+struct task {
+    const char *title; /* where a group of tasks starts */
+    int grows;         /* within a group: time is compared with the task before */
+    const char *name;
+    enum kind kind;
+    struct recipe recipe; /* of a file only pattern and k */
+};
+
+/* The two implementations, where something is said of each. */
+enum { BASELINE, LIBRARY, BOTH };
+
+/* What the full run of the input did, and the bytes of stack that each call has used. */
+struct facts {
+    size_t steps, rejected, sets, stack[BOTH];
+};
+
+/* Makes the input that the calls below work on. */
+void prepare(const struct task *task);
+
+/* The same call of the baseline and of the library. */
+const call *calls_of(const struct task *task);
+
+/* Compares all that both answer to the prepared input, and ends the program where it differs. */
+struct facts compare(const struct task *task);
+
+#endif
