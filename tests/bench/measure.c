@@ -17,6 +17,7 @@ static const double SAMPLE = 0.01, TOGETHER = 4, SLOW = 1;
 
 void fail(const char *message, const char *about)
 {
+    fflush(stdout);
     fprintf(stderr, "bench: %s: %s\n", about, message);
     exit(1);
 }
