@@ -38,7 +38,7 @@ use Rattle.stepdown.proofs.Filling.{part-length, part-row}
 -- ---- sets and masks
 
 -- what a set of n columns leaves, and the set itself
-size-left : (K : Columns) → size (replicate (length K) true ∖ K) + size K ≡ length K
+pub size-left : (K : Columns) → size (replicate (length K) true ∖ K) + size K ≡ length K
 unfolding size count _∖_ zipWith
 size-left [] = refl
 size-left (true ∷ K) = omega (arith, size-left K)

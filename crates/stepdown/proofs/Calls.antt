@@ -15,7 +15,7 @@ use lib.Ieee.{Float}
 use borrow.Author.Tests.{eq-eqb, ne-eqb, lt-ltb, ltb-false, leb-false, eqb-true, not-false}
 use Rattle.order.specs.Order.{finite, plusZero}
 use Rattle.order.specs.Counting.{all, count}
-use Rattle.order.proofs.Booleans.{true-T, never}
+use Rattle.order.proofs.Booleans.{true-T, never, or-passes}
 use Rattle.stepdown.specs.Tables.{rowsOf}
 use Rattle.stepdown.specs.Columns.{size, columnsOf}
 use Rattle.stepdown.specs.Runs.{begun, rejectedSet, after, recordOf}
@@ -43,6 +43,7 @@ record Progress (r : Run) : Type 0 where
   inside : r .rejected < 2 ^ (r .columns)
   steps-most : r .steps ≤ 32
   fresh : r .steps ≡ 0 → r .rejected ≡ 0
+  behind : r .steps ≤ size (rejectedSet r)
   many : 0 < r .steps → r .k ≤ size (rejectedSet r)
   room : 0 < r .steps → size (rejectedSet r) < r .columns
 
@@ -61,6 +62,7 @@ progress r h d =
       inside = leb-false (2 ^ (r .columns)) (r .rejected) (a .0);
       steps-most = ltb-false 32 (r .steps) (b .0);
       fresh = λ z. fresh-of (eqb (r .rejected) 0) (eqb-true (r .rejected) 0) (ap (λ (x : Bool). x && (not (eqb (r .rejected) 0) || r .ended)) (sym (eq-eqb (r .steps) 0 z)) ∙ s .0);
+      behind = ltb-false n (r .steps) (ap (λ (x : Bool). not x && ltb n (r .steps)) (sym d) ∙ l .0);
       many = λ p. ltb-false n (r .k) (or-none (ltb n (r .k)) (leb (r .columns) n) (going n p (l .1)) .0);
       room = λ p. leb-false (r .columns) n (or-none (ltb n (r .k)) (leb (r .columns) n) (going n p (l .1)) .1);
     }
@@ -80,6 +82,18 @@ module _ (t : List Float) (r : Run) (places : ℕ) (h : stepRefusal t r places �
   unfolding checks stepRefusal all
   none = none-holds checks tt h
 
+  pub step-unspoiled : spoiled r ≡ false
+  unfolding checks
+  step-unspoiled = none .0
+
+  pub step-open : r .ended ≡ false
+  unfolding checks
+  step-open = none .1 .0
+
+  -- each step so far has rejected a column
+  pub step-behind : r .steps ≤ size (rejectedSet r)
+  step-behind = progress r (spoiled-none r step-unspoiled .1) step-open .behind
+
   pub step-room : r .rows ≤ places
   unfolding checks
   step-room = ltb-false places (r .rows) (none .1 .1 .1 .1 .0)
@@ -87,8 +101,8 @@ module _ (t : List Float) (r : Run) (places : ℕ) (h : stepRefusal t r places �
   pub step-known : Going t r
   unfolding checks badValue rejectedSet
   step-known =
-      let f = figures r (spoiled-none r (none .0) .0) in
-      let p = progress r (spoiled-none r (none .0) .1) (none .1 .0) in
+      let f = figures r (spoiled-none r step-unspoiled .0) in
+      let p = progress r (spoiled-none r step-unspoiled .1) step-open in
       record {
         ready = record {
           rows-most = f .shaped .rows-most;
@@ -131,6 +145,10 @@ module _ (t : List Float) (rows columns k a b observed places : ℕ) (h : tableR
   pub table-seen : observed < rows
   unfolding conditions
   table-seen = leb-false rows observed (clear .1 .1 .1 .0)
+
+  pub table-figures : badFigures (begun rows columns k a b observed) ≡ false
+  unfolding conditions badFigures
+  table-figures = sym (or-passes _ _ _ (clear .0) (or-passes _ _ _ (clear .1 .0) (sym (clear .1 .1 .1 .0))))
 
   pub table-ready : Ready t rows columns k
   unfolding conditions badValue

@@ -39,12 +39,12 @@ leave (a ∷ live) (r ∷ R) (o ∷ O) h = omega (arith, leave-bit a r o, leave 
 
 -- ---- the last run
 
-pub lastRun : Run → List Step → Run
+unfoldable pub lastRun : Run → List Step → Run
 lastRun r [] = r
 lastRun r (s ∷ ss) = lastRun (s .run) ss
 
 module _ (live : Columns) (X : List (List Float)) (sound : Sound (length live) X) where
-  left-falls : (r : Run) → Fitting live X r → size (leftOver live (after live X r)) + size (newly live X r) ≡ size (leftOver live r)
+  pub left-falls : (r : Run) → Fitting live X r → size (leftOver live (after live X r)) + size (newly live X r) ≡ size (leftOver live r)
   left-falls r fit =
       ap (λ (R : Columns). size (live ∖ R) + size (newly live X r)) (after-rejected live X r sound fit)
       ∙ ap (λ (new : Columns). size (live ∖ (rejectedSet r ∪ new)) + size new) (newly-is live X r sound fit)

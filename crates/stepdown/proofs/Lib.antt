@@ -21,4 +21,5 @@ pub mod Accepted
 pub mod Begun
 pub mod Ending
 pub mod Falling
+pub mod Stepping
 pub mod Examples

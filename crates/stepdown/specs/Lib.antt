@@ -5,5 +5,6 @@ pub mod Runs
 pub mod Refusals
 pub mod Buffers
 pub mod Answers
+pub mod Stepping
 pub mod Internal
 pub mod Examples
