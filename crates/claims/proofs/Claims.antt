@@ -6,7 +6,7 @@
 --   3 Controlled   trials, tables
 use Prim.Native.Nat.{ℕ, _+_, _*_, _≤_, _<_}
 use mathlib.Core.Path.{_≡_, refl, sym, ap, _∙_}
-use mathlib.Core.Bool.{Bool, false, not}
+use mathlib.Core.Bool.{Bool, true, false, not}
 use mathlib.Core.List.{List, [], _∷_, _++_, map}
 use mathlib.Core.Logic.{_↔_}
 use lib.ListN.{length, getD, take}
@@ -14,17 +14,20 @@ use lib.Dec.{T, ltb, leb, eqb}
 use lib.IntN.{ℤ}
 use lib.Ieee.{Float, nan, binary64, ofInt, toSigned}
 use Rattle.order.specs.Counting.{all}
+use Rattle.stepdown.specs.Columns.{everyColumn}
 use Rattle.stepdown.specs.Tables.{rowsOf, allowance}
 use Rattle.stepdown.specs.Buffers.{written, cleared}
-use Rattle.stepdown.specs.Runs.{Outcome, after, recordOf, tableRun}
+use Rattle.stepdown.specs.Runs.{Outcome, begun, recordOf, tableRun}
+use Rattle.stepdown.specs.Stepping.{nextRun, steppedRecords}
 use Rattle.stepdown.specs.Refusals.{Checks, firstRefusal, badShape, badLevel, badValue, spoiled, tooShort, tableChecks, tableRefusal, tableRunRefusal, beginRefusal, stepRefusal}
-use Rattle.stepdown.specs.Answers.{everyColumn, acceptedRun, blankRun, beginAnswer, stepAnswer, stepWork, fullAnswer, fullWork, refusalOfBeginning, refusalOfStep}
+use Rattle.stepdown.specs.Answers.{acceptedRun, beginAnswer, stepAnswer, stepWork, fullAnswer, fullWork, refusalOfBeginning, refusalOfStep}
 use Rattle.stepdown.specs.declared.Run.{Run}
 use Rattle.stepdown.specs.declared.Verdict.{Verdict}
 use Rattle.stepdown.specs.declared.Judged.{Judged}
 use Rattle.stepdown.specs.declared.StepAnswer.the-variants.{Stepped}
 use Rattle.stepdown.proofs.Accepted.{none-holds}
 use Rattle.stepdown.proofs.Calls as calls
+use Rattle.stepdown.proofs.Stepping as steps
 use Rattle.verdicts.specs.Verdicts.{rejectedCount}
 use Rattle.trial.specs.Record.{Typed}
 use Rattle.trial.specs.Used.{SameUsed}
@@ -38,7 +41,7 @@ use Rattle.control.proofs.Tables as control-tables
 use Rattle.control.proofs.Trials as control-trials
 use Rattle.trialfile.specs.Words.{Bytes, wordsOf, word, offersOf, pairsOf}
 use Rattle.trialfile.specs.Files.{longest, badLength, levelPlace, shapePlace, bodyPlaces, fileChecks, trialOf, fileRefusal, answered, readingOf}
-use Rattle.trialfile.specs.Writings.{fileOf, fileLength, trimmed, writeRefusal, writingOf, afterWriting}
+use Rattle.trialfile.specs.Writings.{fileLength, trimmed, writeRefusal, writingOf, afterWriting}
 use Rattle.filerun.specs.FileRuns.{fileRun, acceptedFile, refusedFile}
 use Rattle.rendering.specs.Reports.{cents, recordAt, trialText, refusedText, textOf, reportOf}
 use Rattle.rendering.specs.Renderings.{longestReport, renderRefusal, renderingOf, afterRendering}
@@ -222,11 +225,22 @@ module _ (t : List Float) (rows columns k a b observed : ℕ) where
   unfolding tableVerdictsAnswer tableVerdictsBuffer
   c-table-accepted work verdicts h = (taken _ _ _ h, taken _ _ _ h)
 
--- a step of an accepted run is the method's next step
-pub step-taken : (t : List Float) (r : Run) (places : ℕ) → stepRefusal t r places ≡ 0 → let live = everyColumn (r .columns) in let X = rowsOf (r .rows) (r .columns) t in
-    stepAnswer t r places ≡ Stepped (after live X r) (recordOf live X r)
-unfolding stepAnswer
-step-taken t r places h = taken _ _ _ h
+-- a step of an accepted run is the method's next step, and the run that it hands back can be stepped again until it has ended
+module _ (t : List Float) (r : Run) (places : ℕ) (h : stepRefusal t r places ≡ 0) where
+  pub step-taken : stepAnswer t r places ≡ Stepped (nextRun t r) (recordOf (everyColumn (r .columns)) (rowsOf (r .rows) (r .columns) t) r)
+  unfolding stepAnswer
+  step-taken = taken _ _ _ h
+
+  pub step-again : nextRun t r .ended ≡ false → stepRefusal t (nextRun t r) places ≡ 0
+  step-again = steps.step-again t r places h
+
+  pub step-over : nextRun t r .ended ≡ true → stepRefusal t (nextRun t r) places ≡ 13
+  step-over = steps.step-over t r places h
+
+-- stepping from the beginning until a step is refused gives the records of the full run
+pub stepping : (t : List Float) (rows columns k a b observed places : ℕ) → tableRunRefusal t rows columns k a b observed places ≡ 0
+    → (n : ℕ) → 32 ≤ n → steppedRecords n t places (begun rows columns k a b observed) ≡ tableRun t rows columns k a b observed .records
+stepping = steps.stepping
 
 -- the verdicts that a caller finds are the method's
 pub verdict-told : (o : Outcome) (j : ℕ) (d : Judged) (v : Verdict) → j < length (o .verdicts) → getD (acceptedRun o .judged) j d .verdict ≡ getD (o .verdicts) j v

@@ -12,7 +12,7 @@ use lib.Dec.{T, eqb, ltb}
 use lib.Ieee.{Float}
 use borrow.Author.Tests.{lt-ltb, le-ltb, ne-eqb}
 use Rattle.order.specs.Counting.{all}
-use Rattle.stepdown.specs.Buffers.{written, cleared}
+use Rattle.stepdown.specs.Buffers.{written, cleared, afterCall}
 use Rattle.stepdown.specs.Refusals.{firstRefusal, tooShort, tableChecks, tableRefusal, tableRunRefusal}
 use Rattle.stepdown.specs.Runs.{tableRun}
 use Rattle.stepdown.specs.Answers.{acceptedRun, blankRun, fullAnswer, fullWork}
@@ -23,7 +23,7 @@ use Rattle.stepdown.proofs.Calls.{table-ready}
 use Rattle.verdicts.specs.Verdicts.{rejectedCount, smallSteps}
 use Rattle.verdicts.proofs.StepNumbers.{answer-steps}
 use Rattle.trialfile.proofs.Checks.{Numbered, orElse, first-append, first-most}
-use Rattle.host.specs.Calls.{stepBytes, bufferAfter, tableVerdictsRefusal, tableVerdictsAnswer, tableVerdictsWork, tableVerdictsBuffer}
+use Rattle.host.specs.Calls.{stepBytes, tableVerdictsRefusal, tableVerdictsAnswer, tableVerdictsWork, tableVerdictsBuffer}
 use Rattle.host.proofs.Returned.{returned-refused, returned-count, buffer-kept, buffer-new}
 
 module _ (t : List Float) (rows columns k a b observed : ℕ) where
@@ -133,7 +133,7 @@ module _ (t : List Float) (rows columns k a b observed : ℕ) where
       -- the work buffer is the run's
       same-work : w ≡ tableVerdictsWork t rows columns k a b observed work (length buf)
       unfolding fullWork tableVerdictsWork
-      same-work = p ∙ ap (λ (n : ℕ). bufferAfter n (cleared rows work) work) (sym (roomy (length work) (length buf) h))
+      same-work = p ∙ ap (λ (n : ℕ). afterCall n (cleared rows work) work) (sym (roomy (length work) (length buf) h))
 
       pub table-refused : (f .refusal ≡ 0 → ⊥) → Done (100 + f .refusal) w buf
       table-refused z = let d = turned-away (f .refusal) z as-run in (d .0, (same-work, d .1 .1))

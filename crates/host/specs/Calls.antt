@@ -1,7 +1,6 @@
 -- The calls for hosts written in C: on a trial file (document 01, "Report and C call"), and in the same style on a table. Definitions only.
 --   stepBytes n js                  the rejecting steps of the first n verdicts, 0 where one is kept
 --   returned refusal count          what a call returns: the number of rejected, or 100 plus the refusal number
---   bufferAfter refusal new old     what a lent buffer holds after a call: `new`, or `old` where the call is refused
 --   fileOffers bytes                how many offers the trial of a file has
 --   trialVerdictsRefusal bytes places     of a file and a buffer of so many bytes: what the file is turned away for, then 12
 --   trialVerdictsAnswer bytes places      what the call returns
@@ -16,7 +15,7 @@ use mathlib.Core.List.{List, _++_, map}
 use lib.ListN.{length, take}
 use lib.Dec.{eqb}
 use lib.Ieee.{Float}
-use Rattle.stepdown.specs.Buffers.{written, cleared}
+use Rattle.stepdown.specs.Buffers.{written, cleared, afterCall}
 use Rattle.stepdown.specs.Refusals.{firstRefusal, tooShort, tableChecks}
 use Rattle.stepdown.specs.Runs.{tableRun}
 use Rattle.stepdown.specs.Answers.{acceptedRun}
@@ -31,9 +30,6 @@ stepBytes n js = map (λ j. rejectingStep (j .verdict)) (take n js)
 
 abbrev pub returned : ℕ → ℕ → ℕ
 returned refusal count = cond (eqb refusal 0) count (100 + refusal)
-
-abbrev pub bufferAfter : {A : Type 0} → ℕ → List A → List A → List A
-bufferAfter refusal new old = cond (eqb refusal 0) new old
 
 -- ---- a file
 
@@ -52,7 +48,7 @@ trialVerdictsAnswer bytes places =
 unfoldable pub trialVerdictsBuffer : List ℕ → List ℕ → List ℕ
 unfolding trialVerdictsRefusal fileRun
 trialVerdictsBuffer bytes buf =
-    bufferAfter (trialVerdictsRefusal bytes (length buf)) (written (stepBytes (fileOffers bytes) (fileRun bytes .run .judged)) buf) buf
+    afterCall (trialVerdictsRefusal bytes (length buf)) (written (stepBytes (fileOffers bytes) (fileRun bytes .run .judged)) buf) buf
 
 -- ---- a table
 
@@ -69,11 +65,11 @@ tableVerdictsAnswer t rows columns k a b observed work places =
 unfoldable pub tableVerdictsWork : List Float → ℕ → ℕ → ℕ → ℕ → ℕ → ℕ → List Float → ℕ → List Float
 unfolding tableVerdictsRefusal
 tableVerdictsWork t rows columns k a b observed work places =
-    bufferAfter (tableVerdictsRefusal t rows columns k a b observed (length work) places) (cleared rows work) work
+    afterCall (tableVerdictsRefusal t rows columns k a b observed (length work) places) (cleared rows work) work
 
 unfoldable pub tableVerdictsBuffer : List Float → ℕ → ℕ → ℕ → ℕ → ℕ → ℕ → ℕ → List ℕ → List ℕ
 unfolding tableVerdictsRefusal acceptedRun tableRun
 tableVerdictsBuffer t rows columns k a b observed work buf =
-    bufferAfter (tableVerdictsRefusal t rows columns k a b observed work (length buf))
+    afterCall (tableVerdictsRefusal t rows columns k a b observed work (length buf))
     (written (stepBytes columns (acceptedRun (tableRun t rows columns k a b observed) .judged)) buf)
     buf

@@ -19,7 +19,8 @@ use Rattle.order.specs.Order.{plusZero}
 use Rattle.order.specs.Counting.{all}
 use Rattle.order.proofs.Booleans.{and-both, and-left, and-right}
 use Rattle.order.proofs.Counts.{all-getD, all-map}
-use Rattle.stepdown.specs.Answers.{acceptedRun, noRecord, padded}
+use Rattle.stepdown.specs.Buffers.{padded}
+use Rattle.stepdown.specs.Answers.{acceptedRun, noRecord}
 use Rattle.stepdown.specs.Tables.{rowsOf}
 use Rattle.stepdown.specs.Runs.{begun, stepsOf, tableRun, fullRun}
 use Rattle.stepdown.specs.declared.Record.{Record}

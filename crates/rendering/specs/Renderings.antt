@@ -9,7 +9,7 @@ use mathlib.Core.List.{List}
 use lib.ListN.{length}
 use lib.Dec.{eqb}
 use Rattle.stepdown.specs.Refusals.{firstRefusal, tooShort}
-use Rattle.stepdown.specs.Buffers.{written}
+use Rattle.stepdown.specs.Buffers.{written, afterCall}
 use Rattle.rendering.specs.Reports.{reportOf}
 use Rattle.rendering.specs.declared.Rendering.{Rendering}
 
@@ -28,4 +28,4 @@ renderingOf bytes places =
 
 unfoldable pub afterRendering : List ℕ → List ℕ → List ℕ
 unfolding renderRefusal reportOf
-afterRendering bytes buf = cond (eqb (renderRefusal bytes (length buf)) 0) (written (reportOf bytes) buf) buf
+afterRendering bytes buf = afterCall (renderRefusal bytes (length buf)) (written (reportOf bytes) buf) buf

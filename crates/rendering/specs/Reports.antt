@@ -6,6 +6,7 @@
 --   verdictStep last v     the step that rejected, or the last step
 --   offerLine ..           an offer: printed code, verdict, step, count
 --   recordAt, judgedAt     the record of step i and the verdict of offer i, both from 0
+--   stepLineAt, offerLineAt     their lines
 --   linesTo n f            the lines f 0 to f (n - 1), one after the other
 --   trialText t r          the report of a trial with the full run r
 --   refusedText n          the text of a refusal

@@ -1,8 +1,10 @@
 -- Numbers and lines as text, in ASCII. Definitions only.
+--   digit d           a digit
 --   printed n c       the last n decimal digits of c, the most significant first
 --   decimalUpTo f n   a number with no leading zeros, if it has at most f digits
 --   decimal n         a number below 10^20 with no leading zeros; zero is 0
 --   decimalInt z      a whole number: a minus sign before a negative one
+--   afterFirst ws     the words after a line's first, and the line end
 --   line w ws         words as a line: a space before each but the first, and a line end
 use Prim.Native.Nat.{ℕ, zero, suc, _+_, _/_, _%_}
 use mathlib.Core.Bool.{cond}

@@ -18,10 +18,9 @@ use Rattle.order.specs.Order.{finite}
 use Rattle.order.specs.Counting.{bit, count}
 use Rattle.order.proofs.Booleans.{and-left, and-right, or-holds, or-passes}
 use Rattle.stepdown.specs.Tables.{rowsOf, allowance}
-use Rattle.stepdown.specs.Columns.{Columns, size, _∪_, _∩_, _∖_, over, columnsOf, maskOf}
+use Rattle.stepdown.specs.Columns.{Columns, size, _∪_, _∩_, _∖_, over, columnsOf, maskOf, everyColumn}
 use Rattle.stepdown.specs.Method.{criticalValue, putBack}
 use Rattle.stepdown.specs.Runs.{rejectedSet, bar, barOf, newly, finished, next, after, recordOf}
-use Rattle.stepdown.specs.Answers.{everyColumn}
 use Rattle.stepdown.specs.Internal.{every, stops, Ready, Walk, Going, advanced}
 use Rattle.stepdown.specs.declared.Run.{Run}
 use Rattle.stepdown.specs.declared.Record.{Record}

@@ -17,11 +17,11 @@ use Rattle.order.specs.Order.{finite, plusZero}
 use Rattle.order.specs.Counting.{all, count}
 use Rattle.order.proofs.Booleans.{true-T, never, or-passes}
 use Rattle.stepdown.specs.Tables.{rowsOf}
-use Rattle.stepdown.specs.Columns.{size, columnsOf}
+use Rattle.stepdown.specs.Columns.{size, columnsOf, everyColumn}
 use Rattle.stepdown.specs.Runs.{begun, rejectedSet, after, recordOf}
 use Rattle.stepdown.specs.Refusals.{Checks, firstRefusal, badShape, badLevel, badValue, beginRefusal, badFigures, badProgress, spoiled, stepRefusal, tableChecks, tableRunRefusal}
 use Rattle.stepdown.specs.Buffers.{cleared}
-use Rattle.stepdown.specs.Answers.{everyColumn, beginAnswer, refusalOfBeginning, stepAnswer, stepWork, refusalOfStep}
+use Rattle.stepdown.specs.Answers.{beginAnswer, refusalOfBeginning, stepAnswer, stepWork, refusalOfStep}
 use Rattle.stepdown.specs.Internal.{Ready, Going, advanced}
 use Rattle.stepdown.specs.declared.Run.{Run}
 use Rattle.stepdown.specs.declared.Step.{Step}

@@ -14,12 +14,12 @@ use lib.Ieee.{Float, nan}
 use borrow.Author.Tests.{eq-eqb, ne-eqb}
 use Rattle.order.specs.Order.{plusZero}
 use Rattle.stepdown.specs.Tables.{rowsOf}
-use Rattle.stepdown.specs.Columns.{Columns, inSet}
+use Rattle.stepdown.specs.Columns.{Columns, inSet, everyColumn}
 use Rattle.stepdown.specs.Method.{atLeast}
 use Rattle.stepdown.specs.Runs.{Outcome, begun, stepsOf, verdictFrom, verdictOf, tabulate, fullRun, tableRun}
 use Rattle.stepdown.specs.Refusals.{tableRunRefusal}
-use Rattle.stepdown.specs.Buffers.{cleared}
-use Rattle.stepdown.specs.Answers.{everyColumn, padded, noRecord, judgedAs, blankRun, acceptedRun, fullAnswer, fullWork}
+use Rattle.stepdown.specs.Buffers.{cleared, padded}
+use Rattle.stepdown.specs.Answers.{noRecord, judgedAs, blankRun, acceptedRun, fullAnswer, fullWork}
 use Rattle.stepdown.specs.Internal.{Traced, traceOf, verdictOver, verdictIn, finishedRun}
 use Rattle.stepdown.specs.declared.Run.{Run}
 use Rattle.stepdown.specs.declared.Record.{Record}

@@ -12,10 +12,11 @@ use lib.ListN.{length, getD, take, drop, set, replicate, length-map}
 use lib.Seq.{take-all, length-take-le}
 use lib.Dec.{T}
 use lib.Ieee.{Float}
+use Rattle.stepdown.specs.Buffers.{padded}
 use Rattle.stepdown.specs.Tables.{rowsOf}
-use Rattle.stepdown.specs.Columns.{Columns, size, _∪_, columnsOf, maskOf}
+use Rattle.stepdown.specs.Columns.{Columns, size, _∪_, columnsOf, maskOf, everyColumn}
 use Rattle.stepdown.specs.Runs.{rejectedSet, newly, after, recordOf, next, stepsFrom, stepsOf}
-use Rattle.stepdown.specs.Answers.{everyColumn, padded, noRecord}
+use Rattle.stepdown.specs.Answers.{noRecord}
 use Rattle.stepdown.specs.Internal.{Ready, Going, advanced, traceOf, notedAt}
 use Rattle.stepdown.specs.declared.Run.{Run}
 use Rattle.stepdown.specs.declared.Record.{Record}

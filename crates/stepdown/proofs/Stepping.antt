@@ -19,10 +19,10 @@ use Rattle.order.specs.Order.{finite}
 use Rattle.order.specs.Counting.{all}
 use Rattle.order.proofs.Booleans.{T-true, passes, not-no}
 use Rattle.stepdown.specs.Tables.{rowsOf}
-use Rattle.stepdown.specs.Columns.{size, _∖_}
+use Rattle.stepdown.specs.Columns.{size, _∖_, everyColumn}
 use Rattle.stepdown.specs.Runs.{begun, rejectedSet, next, after, recordOf, stepsFrom, verdictOf, tabulate, stepsOf, fullRun, tableRun}
 use Rattle.stepdown.specs.Refusals.{firstRefusal, badShape, badLevel, badValue, tooShort, tableRunRefusal, beginRefusal, badFigures, badProgress, spoiled, stepRefusal}
-use Rattle.stepdown.specs.Answers.{everyColumn, beginAnswer, stepAnswer}
+use Rattle.stepdown.specs.Answers.{beginAnswer, stepAnswer}
 use Rattle.stepdown.specs.Stepping.{nextRun, onward, stepped, steppedRecords}
 use Rattle.stepdown.specs.Internal.{every, Ready, Going}
 use Rattle.stepdown.specs.declared.Run.{Run}

@@ -17,11 +17,12 @@ use borrow.Author.Tests.{eq-eqb, ne-eqb}
 use Rattle.order.specs.Order.{atMost, plusZero}
 use Rattle.order.specs.Counting.{count}
 use Rattle.order.proofs.Slices.{counted-in, counted-past, counted-all}
+use Rattle.stepdown.specs.Buffers.{padded}
 use Rattle.stepdown.specs.Tables.{rowsOf}
 use Rattle.stepdown.specs.Columns.{inSet}
 use Rattle.stepdown.specs.Method.{atLeast}
 use Rattle.stepdown.specs.Runs.{tabulate}
-use Rattle.stepdown.specs.Answers.{padded, judgedAs}
+use Rattle.stepdown.specs.Answers.{judgedAs}
 use Rattle.stepdown.specs.Internal.{Traced, verdictOver, verdictIn}
 use Rattle.stepdown.specs.declared.Record.{Record}
 use Rattle.stepdown.specs.declared.Verdict.{Verdict}

@@ -1,26 +1,25 @@
 -- What the public calls answer, and what the lent work buffer holds afterwards. Definitions only.
---   everyColumn n      all of n columns take part
 --   beginAnswer        of beginning a run
 --   stepAnswer         of a step, for a work buffer of so many places
 --   stepWork           the work buffer after a step
---   padded n d xs      xs with d in the places up to n
+--   noRecord, judgedAs v     a blank record; a verdict in its struct
 --   blankRun n         what a full run that is refused by n answers
 --   acceptedRun o      what a full run with the outcome o answers
 --   fullAnswer         of a full run of a table, for a work buffer of so many places
 --   fullWork           the work buffer after it
 --   refusalOfStep, refusalOfBeginning      the paper's number for each case: 0 where the call is accepted
-use Prim.Native.Nat.{ℕ, zero, suc, _-_}
-use mathlib.Core.Bool.{Bool, true, cond}
-use mathlib.Core.List.{List, [], _++_, map}
+use Prim.Native.Nat.{ℕ}
+use mathlib.Core.Bool.{cond}
+use mathlib.Core.List.{List, map}
 use lib.ListN.{length, replicate}
 use lib.Dec.{eqb}
 use lib.Ieee.{Float}
 use Rattle.order.specs.Order.{plusZero}
 use Rattle.stepdown.specs.Tables.{rowsOf}
-use Rattle.stepdown.specs.Columns.{Columns}
+use Rattle.stepdown.specs.Columns.{everyColumn}
 use Rattle.stepdown.specs.Runs.{Outcome, begun, after, recordOf, tableRun}
 use Rattle.stepdown.specs.Refusals.{beginRefusal, stepRefusal, tableRunRefusal}
-use Rattle.stepdown.specs.Buffers.{cleared}
+use Rattle.stepdown.specs.Buffers.{cleared, afterCall, padded}
 use Rattle.stepdown.specs.declared.Run.{Run}
 use Rattle.stepdown.specs.declared.Record.{Record}
 use Rattle.stepdown.specs.declared.Verdict.{Verdict}
@@ -31,9 +30,6 @@ use Rattle.stepdown.specs.declared.Beginning.{Beginning}
 use Rattle.stepdown.specs.declared.Beginning.the-variants as beginning
 use Rattle.stepdown.specs.declared.StepAnswer.{StepAnswer}
 use Rattle.stepdown.specs.declared.StepAnswer.the-variants as stepping
-
-abbrev pub everyColumn : ℕ → Columns
-everyColumn n = replicate n true
 
 -- ---- beginning a run
 
@@ -58,16 +54,13 @@ stepAnswer t r places =
 
 unfoldable pub stepWork : List Float → Run → List Float → List Float
 unfolding stepRefusal
-stepWork t r work = cond (eqb (stepRefusal t r (length work)) 0) (cleared (r .rows) work) work
+stepWork t r work = afterCall (stepRefusal t r (length work)) (cleared (r .rows) work) work
 
 abbrev pub refusalOfStep : StepAnswer → ℕ
 refusalOfStep (stepping.Stepped r m) = 0
 refusalOfStep (stepping.Refused n) = n
 
 -- ---- a full run
-
-abbrev pub padded : {A : Type 0} → ℕ → A → List A → List A
-padded n d xs = xs ++ replicate (n - length xs) d
 
 abbrev pub noRecord : Record
 noRecord = record { step = 0; critical = plusZero }
@@ -97,4 +90,4 @@ fullAnswer t rows columns k a b observed places =
 unfoldable pub fullWork : List Float → ℕ → ℕ → ℕ → ℕ → ℕ → ℕ → List Float → List Float
 unfolding tableRunRefusal
 fullWork t rows columns k a b observed work =
-    cond (eqb (tableRunRefusal t rows columns k a b observed (length work)) 0) (cleared rows work) work
+    afterCall (tableRunRefusal t rows columns k a b observed (length work)) (cleared rows work) work

@@ -1,4 +1,6 @@
 -- Sets of columns (document 01: sets of offers). A set has a Bool for each column, true where the column is in it. Definitions only.
+--   Columns         the type of these sets
+--   everyColumn n   all of n columns
 --   size K          how many columns K has
 --   K ∪ L, K ∩ L    columns of either, of both
 --   K ∖ L           columns of K that L has not
@@ -11,6 +13,7 @@
 use Prim.Native.Nat.{ℕ, zero, suc, _+_, _*_, _/_, _%_, _^_}
 use mathlib.Core.Bool.{Bool, true, false, not, cond, _&&_, _||_}
 use mathlib.Core.List.{List, [], _∷_, _++_, map, zipWith}
+use lib.ListN.{replicate}
 use lib.Dec.{eqb}
 use lib.Ieee.{Float}
 use Rattle.order.specs.Order.{smaller}
@@ -21,6 +24,9 @@ infixl 65 _∪_
 infixl 65 _∖_
 abbrev pub Columns : Type 0
 Columns = List Bool
+
+abbrev pub everyColumn : ℕ → Columns
+everyColumn n = replicate n true
 
 unfoldable pub size : Columns → ℕ
 unfolding count

@@ -1,4 +1,8 @@
 -- The starred examples of document 01: a table of what is asked and what is told. Definitions only; proofs/Examples.antt states that they agree.
+--   ⁺ n, ⁻ n, step        how values and records are written
+--   Answer, Example       what can be asked; what is asked and what is told
+--   W, P                  document 01's tables, row after row
+--   examples              all of them, one after the other
 -- W's table stands here row by row; crate trial shows that it is the table of the trial W.
 use Prim.Native.Nat.{ℕ}
 use mathlib.Core.Bool.{Bool, true, false}

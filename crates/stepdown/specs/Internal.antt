@@ -24,11 +24,12 @@ use lib.ListN.{length, getD, take, set}
 use lib.Ieee.{Float, nan}
 use Rattle.order.specs.Order.{finite, smaller, plusZero}
 use Rattle.order.specs.Counting.{all}
-use Rattle.stepdown.specs.Columns.{size, columnsOf, inSet}
+use Rattle.stepdown.specs.Buffers.{padded}
+use Rattle.stepdown.specs.Columns.{size, columnsOf, inSet, everyColumn}
 use Rattle.stepdown.specs.Tables.{rowsOf}
 use Rattle.stepdown.specs.Runs.{rejectedSet, after, recordOf, tabulate}
 use Rattle.stepdown.specs.Method.{atLeast}
-use Rattle.stepdown.specs.Answers.{everyColumn, padded, noRecord, judgedAs}
+use Rattle.stepdown.specs.Answers.{noRecord, judgedAs}
 use Rattle.stepdown.specs.declared.Record.{Record}
 use Rattle.stepdown.specs.declared.Verdict.{Verdict}
 use Rattle.stepdown.specs.declared.Verdict.the-variants.{Rejected, Kept}

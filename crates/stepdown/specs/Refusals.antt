@@ -1,10 +1,11 @@
 -- What is turned away. A refusal is an ordered list of conditions with their numbers: the first that holds decides. Definitions only.
+--   Checks                  conditions with their numbers, in order
 --   firstRefusal checks     the number of the first condition that holds, and 0 where none does
 --   outside low high n      n is not from low to high
 --   badShape, badLevel      the conditions of 4 (for a table) and of 3
 --   badValue t              the condition of 11: a value is infinite or no number
 --   tooShort places needed  12, the last of every list: a lent buffer has fewer places than are needed
---   tableRefusal            of a table: 4, 3, 9, 10, 11
+--   tableChecks, tableRefusal            of a table: 4, 3, 9, 10, 11
 --   tableRunRefusal         of a full run of a table, with a lent work buffer: the same, then 12
 --   beginRefusal            of beginning a run: 4, 3, 10
 --   badFigures, badProgress, spoiled r      the condition of 14

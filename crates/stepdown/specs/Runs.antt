@@ -6,22 +6,25 @@
 --   barOf live X r                      the critical value of the run's next step
 --   newly live X r                      the columns that its next step rejects
 --   finished k live new R               whether a step that rejected `new`, so that R is rejected, ends the run
+--   next r R ended                      the run with one step more and R rejected
 --   after live X r                      the run after its next step
 --   recordOf live X r                   the record of its next step
 --   stepsFrom n ended live X r          the steps from r on until one has ended, at most n; `ended` is whether r has
---   verdictOf steps j                   column j's verdict
+--   stepsOf live X r                    all of them
+--   verdictFrom last steps j, verdictOf steps j     column j's verdict, after the last critical value so far; from the first step on
+--   Outcome                             what a full run tells: verdicts, counts and records
 --   tabulate n f                        f 0 to f (n - 1)
 --   fullRun live X r                    verdicts, counts and records of the run that begins with r
 --   tableRun t rows columns k a b observed   the full run of a table t
 use Prim.Native.Nat.{ℕ, zero, suc, _+_}
 use mathlib.Core.Bool.{Bool, true, false, cond, _||_}
 use mathlib.Core.List.{List, [], _∷_, map}
-use lib.ListN.{length, getD, replicate}
+use lib.ListN.{length, getD}
 use lib.Dec.{ltb, eqb}
 use lib.Ieee.{Float, nan}
 use Rattle.order.specs.Order.{plusZero}
 use Rattle.stepdown.specs.Tables.{rowsOf, allowance}
-use Rattle.stepdown.specs.Columns.{Columns, size, _∪_, _∩_, _∖_, over, inSet, columnsOf, maskOf}
+use Rattle.stepdown.specs.Columns.{Columns, everyColumn, size, _∪_, _∩_, _∖_, over, inSet, columnsOf, maskOf}
 use Rattle.stepdown.specs.Method.{criticalValue, putBack, atLeast}
 use Rattle.stepdown.specs.declared.Run.{Run}
 use Rattle.stepdown.specs.declared.Record.{Record}
@@ -113,4 +116,4 @@ fullRun live X r =
 
 unfoldable pub tableRun : List Float → ℕ → ℕ → ℕ → ℕ → ℕ → ℕ → Outcome
 unfolding fullRun rowsOf
-tableRun t rows columns k a b observed = fullRun (replicate columns true) (rowsOf rows columns t) (begun rows columns k a b observed)
+tableRun t rows columns k a b observed = fullRun (everyColumn columns) (rowsOf rows columns t) (begun rows columns k a b observed)

@@ -5,9 +5,10 @@
 use Prim.Native.Nat.{ℕ, zero, suc}
 use mathlib.Core.List.{List, [], _∷_, map}
 use lib.Ieee.{Float}
+use Rattle.stepdown.specs.Columns.{everyColumn}
 use Rattle.stepdown.specs.Tables.{rowsOf}
 use Rattle.stepdown.specs.Runs.{after}
-use Rattle.stepdown.specs.Answers.{everyColumn, stepAnswer}
+use Rattle.stepdown.specs.Answers.{stepAnswer}
 use Rattle.stepdown.specs.declared.Run.{Run}
 use Rattle.stepdown.specs.declared.Record.{Record}
 use Rattle.stepdown.specs.declared.Step.{Step}

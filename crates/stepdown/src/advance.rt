@@ -9,10 +9,10 @@ use super::quantile::Figures;
 ghost use mathlib.Core.Path.{_≡_};
 ghost use Prim.Native.Nat.{_≤_};
 ghost use lib.ListN.{length, drop};
+ghost use Rattle.stepdown.specs.Columns.{everyColumn};
 ghost use Rattle.stepdown.specs.Tables.{rowsOf};
 ghost use Rattle.stepdown.specs.Runs.{barOf};
 ghost use Rattle.stepdown.specs.Buffers.{cleared};
-ghost use Rattle.stepdown.specs.Answers.{everyColumn};
 ghost use Rattle.stepdown.specs.Internal.{Going, advanced, stops};
 
 // Plus zero into the first m places of the work buffer.

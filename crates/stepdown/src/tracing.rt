@@ -11,9 +11,10 @@ ghost use mathlib.Core.Path.{_≡_};
 ghost use mathlib.Core.Bool.{false};
 ghost use Prim.Native.Nat.{_<_, _≤_};
 ghost use lib.ListN.{length, drop};
+ghost use Rattle.stepdown.specs.Columns.{everyColumn};
 ghost use Rattle.stepdown.specs.Tables.{rowsOf};
 ghost use Rattle.stepdown.specs.Runs.{stepsOf};
-ghost use Rattle.stepdown.specs.Answers.{everyColumn, blankRun};
+ghost use Rattle.stepdown.specs.Answers.{blankRun};
 ghost use Rattle.stepdown.specs.Internal.{Ready, Going, Traced, traceOf, notedAt, verdictIn, finishedRun};
 
 // The records of the steps taken and the rejected sets after them.

@@ -5,6 +5,7 @@
 --   rowTotal t          M: the rows of a trial's table
 --   rowOf t g           row g of its table: for each offer the exact sum as an f64
 --   trialRows t         all rows
+--   joined rows         rows, one after the other
 --   tableOf t           the table as it is lent, row after row
 --   trialRun t          the full run of a trial: of its table, with row 0 observed
 use Prim.Native.Nat.{ℕ, zero, suc, _/_, _%_, _^_}

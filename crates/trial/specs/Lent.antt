@@ -11,7 +11,7 @@ use lib.ListN.{length}
 use lib.Dec.{eqb}
 use lib.Ieee.{Float}
 use Rattle.stepdown.specs.Answers.{acceptedRun, blankRun}
-use Rattle.stepdown.specs.Buffers.{written, cleared}
+use Rattle.stepdown.specs.Buffers.{written, cleared, afterCall}
 use Rattle.stepdown.specs.Refusals.{firstRefusal, tooShort}
 use Rattle.trial.specs.Exchange.{rowTotal, tableOf, trialRun}
 use Rattle.trial.specs.Refusals.{trialChecks}
@@ -24,7 +24,7 @@ tableCallRefusal t places = firstRefusal (trialChecks t ++ tooShort places (rowT
 
 unfoldable pub tableBuffer : Trial → List Float → List Float
 unfolding tableCallRefusal tableOf
-tableBuffer t buf = cond (eqb (tableCallRefusal t (length buf)) 0) (written (tableOf t) buf) buf
+tableBuffer t buf = afterCall (tableCallRefusal t (length buf)) (written (tableOf t) buf) buf
 
 -- ---- a full run
 
@@ -40,8 +40,8 @@ trialAnswer t places work =
 
 unfoldable pub runTable : Trial → List Float → ℕ → List Float
 unfolding runCallRefusal tableOf
-runTable t table work = cond (eqb (runCallRefusal t (length table) work) 0) (written (tableOf t) table) table
+runTable t table work = afterCall (runCallRefusal t (length table) work) (written (tableOf t) table) table
 
 unfoldable pub runWork : Trial → ℕ → List Float → List Float
 unfolding runCallRefusal rowTotal
-runWork t places work = cond (eqb (runCallRefusal t places (length work)) 0) (cleared (rowTotal t) work) work
+runWork t places work = afterCall (runCallRefusal t places (length work)) (cleared (rowTotal t) work) work

@@ -1,4 +1,5 @@
--- What every value of the record's type has: arrays of their lengths. Definitions only.
+-- What every value of the record's type has. Definitions only.
+--   Typed t     its arrays have 16, 16 and 144 places
 use mathlib.Core.Path.{_≡_}
 use lib.ListN.{length}
 use Rattle.trial.specs.declared.Trial.{Trial}

@@ -1,5 +1,5 @@
 -- Places of a record that its counts don't use. Definitions only.
---   SameUsed t u     two records have the same figures, and agree at the places that the counts use
+--   SameUsed t u     two records are the same trial (document 01): the same figures, and they agree at the places that the counts use
 use mathlib.Core.Path.{_≡_}
 use Prim.Native.Nat.{_*_}
 use lib.ListN.{take}

@@ -7,8 +7,8 @@ use mathlib.Core.Path.{_≡_, sym, ap, ap₂, _∙_}
 use mathlib.Core.List.{List, [], _∷_, _++_, map, append-assoc, map-append}
 use lib.ListN.{length, set, take, drop, replicate, length-append, length-map, length-drop}
 use lib.Seq.{take-suc, set-append-seam, getD-drop, length-take-le}
+use Rattle.stepdown.specs.Buffers.{padded}
 use Rattle.trialfile.specs.Words.{word}
-use Rattle.trialfile.specs.Files.{padded}
 
 module _ {A : Type 0} where
   padded-set : (n : ℕ) (d : A) (xs : List A) (x : A) → length xs < n → set (padded n d xs) (length xs) x ≡ padded n d (xs ++ (x ∷ []))

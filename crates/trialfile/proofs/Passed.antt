@@ -17,6 +17,7 @@ use lib.Seq.{take-at, length-take-le}
 use lib.Dec.{T, ltb, leb, eqb}
 use lib.IntN.{pos}
 use borrow.Author.Tests.{ltb-false, eqb-true, not-false}
+use Rattle.stepdown.specs.Buffers.{padded}
 use Rattle.order.specs.Counting.{all}
 use Rattle.order.proofs.Booleans.{and-right}
 use Rattle.order.proofs.Counts.{all-append, all-le}
@@ -26,7 +27,7 @@ use Rattle.trial.specs.Record.{Typed}
 use Rattle.trial.specs.Refusals.{badCounts, offerChecks, differenceChecks, trialChecks, trialRefusal}
 use Rattle.trial.proofs.Accepted.{accepted}
 use Rattle.trialfile.specs.Words.{wordsOf, word, kindOf, aOf, bOf, unusedOf, kOf, offersOf, pairsOf, digitsOf, codeOf, differenceOf, countOf, offerWord, differenceWord}
-use Rattle.trialfile.specs.Files.{padded, trialOf, wordsBefore, longest, badLength, offerPlaces, differencePlaces, endPlace, placeChecks, fileChecks, fileRefusal}
+use Rattle.trialfile.specs.Files.{trialOf, wordsBefore, longest, badLength, offerPlaces, differencePlaces, endPlace, placeChecks, fileChecks, fileRefusal}
 use Rattle.trialfile.specs.Writings.{fileWords}
 use Rattle.trialfile.proofs.Fields.{level-again, shape-again, end-again}
 use Rattle.trialfile.proofs.Checks.{Numbered, first-most, none-first, none-append, none-join}

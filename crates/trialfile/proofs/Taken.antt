@@ -9,10 +9,11 @@ use mathlib.Core.List.{List, map}
 use lib.ListN.{length, take, drop}
 use lib.Seq.{drop-drop}
 use lib.IntN.{ℤ, pos}
+use Rattle.stepdown.specs.Buffers.{padded}
 use Rattle.trial.proofs.Accepted.{accepted}
 use Rattle.trial.specs.declared.Trial.{Trial}
 use Rattle.trialfile.specs.Words.{wordsOf, word, codeOf, digitsOf, differenceOf}
-use Rattle.trialfile.specs.Files.{padded, blank, trialOf, fileRefusal, answered, readingOf}
+use Rattle.trialfile.specs.Files.{blank, trialOf, fileRefusal, answered, readingOf}
 use Rattle.trialfile.proofs.Parts.{product-most}
 use Rattle.trialfile.proofs.RoundTrip.{read-accepted, read-many}
 

@@ -1,6 +1,5 @@
 -- Reading a trial file (document 01). What a file is turned away for is judged place by place; its trial is read off by position. Definitions only.
 --   longest                the longest file, in bytes
---   padded n d xs          xs, and d in the places beyond, n places in all
 --   filled ..              the trial of these values: places that its counts don't use hold zero
 --   blank                  the trial that holds nothing but zeros
 --   trialOf ws             the trial that words hold, by position
@@ -18,12 +17,13 @@
 --   fileRefusal bytes      the number of the first that holds, or 0
 --   answered n t           0 and the trial, or the number and the blank trial
 --   readingOf bytes        what reading a file answers: the refusal, and the trial of an accepted file
-use Prim.Native.Nat.{ℕ, zero, suc, _+_, _-_, _*_, _%_}
+use Prim.Native.Nat.{ℕ, zero, suc, _+_, _*_, _%_}
 use mathlib.Core.Bool.{Bool, not, _||_}
 use mathlib.Core.List.{List, [], _∷_, _++_, map}
-use lib.ListN.{length, take, drop, replicate}
+use lib.ListN.{length, take, drop}
 use lib.Dec.{ltb, eqb}
 use lib.IntN.{ℤ, pos}
+use Rattle.stepdown.specs.Buffers.{padded}
 use Rattle.stepdown.specs.Refusals.{Checks, firstRefusal, badLevel}
 use Rattle.trial.specs.Refusals.{badCounts, badDigits, has, badDifference}
 use Rattle.trial.specs.declared.Trial.{Trial}
@@ -31,9 +31,6 @@ use Rattle.trialfile.specs.Words.{wordsOf, word, kindOf, levelKind, shap
 use Rattle.trialfile.specs.declared.Reading.{Reading}
 
 -- ---- the trial
-
-abbrev pub padded : {A : Type 0} → ℕ → A → List A → List A
-padded n d xs = xs ++ replicate (n - length xs) d
 
 abbrev pub filled : ℕ → ℕ → ℕ → ℕ → ℕ → List ℕ → List ℕ → List ℤ → Trial
 filled a b k offers pairs codes digits differences = record {

@@ -14,7 +14,7 @@ use mathlib.Core.List.{List, [], _∷_, _++_, map, zipWith}
 use lib.ListN.{length, take}
 use lib.Dec.{eqb}
 use Rattle.stepdown.specs.Refusals.{firstRefusal, tooShort}
-use Rattle.stepdown.specs.Buffers.{written}
+use Rattle.stepdown.specs.Buffers.{written, afterCall}
 use Rattle.trial.specs.Refusals.{trialChecks}
 use Rattle.trial.specs.declared.Trial.{Trial}
 use Rattle.trialfile.specs.Words.{bytesOf, levelWord, shapeWord, offerWord, differenceWord, endWord}
@@ -57,4 +57,4 @@ writingOf t places = record { refusal = writeRefusal t places; length = cond (eq
 
 unfoldable pub afterWriting : Trial → List ℕ → List ℕ
 unfolding writeRefusal fileOf
-afterWriting t buf = cond (eqb (writeRefusal t (length buf)) 0) (written (fileOf t) buf) buf
+afterWriting t buf = afterCall (writeRefusal t (length buf)) (written (fileOf t) buf) buf

@@ -6,8 +6,9 @@ ghost use mathlib.Core.List.{map};
 ghost use Prim.Native.Nat.{_+_, _≤_};
 ghost use lib.ListN.{length, take, drop};
 ghost use lib.IntN.{pos};
+ghost use Rattle.stepdown.specs.Buffers.{padded};
 ghost use Rattle.trialfile.specs.Words.{wordsOf, codeOf, digitsOf, differenceOf};
-ghost use Rattle.trialfile.specs.Files.{padded, blank, trialOf, fileRefusal};
+ghost use Rattle.trialfile.specs.Files.{blank, trialOf, fileRefusal};
 
 fn read_codes(file: &[u8], n: usize) -> [u32; 16]
     requires { ⌜ (n ≤ 16) × (n + 2 ≤ length (wordsOf (now file))) ⌝ }

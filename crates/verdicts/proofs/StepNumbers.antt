@@ -16,10 +16,10 @@ use Rattle.order.specs.Counting.{all}
 use Rattle.order.proofs.Booleans.{and-left, and-right, and-both}
 use Rattle.order.proofs.Counts.{all-append, all-map}
 use Rattle.stepdown.specs.Tables.{rowsOf}
-use Rattle.stepdown.specs.Columns.{Columns, inSet}
+use Rattle.stepdown.specs.Columns.{Columns, inSet, everyColumn}
 use Rattle.stepdown.specs.Runs.{begun, next, after, recordOf, stepsFrom, verdictFrom, verdictOf, tabulate, stepsOf, fullRun, tableRun}
 use Rattle.stepdown.specs.Refusals.{tableRunRefusal}
-use Rattle.stepdown.specs.Answers.{everyColumn, judgedAs, blankRun, acceptedRun, fullAnswer}
+use Rattle.stepdown.specs.Answers.{judgedAs, blankRun, acceptedRun, fullAnswer}
 use Rattle.stepdown.specs.declared.Run.{Run}
 use Rattle.stepdown.specs.declared.Step.{Step}
 use Rattle.stepdown.specs.declared.Verdict.the-variants.{Rejected, Kept}
