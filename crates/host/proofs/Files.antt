@@ -20,7 +20,7 @@ use Rattle.trial.specs.Exchange.{rowTotal, tableOf, trialRun}
 use Rattle.trial.proofs.Accepted.{accepted}
 use Rattle.trialfile.specs.Words.{wordsOf}
 use Rattle.trialfile.specs.Files.{trialOf, fileChecks, fileRefusal}
-use Rattle.trialfile.proofs.Checks.{orElse, nonzero-stays, first-append}
+use Rattle.stepdown.proofs.Refusals.{orElse, nonzero-stays, first-append}
 use Rattle.trialfile.proofs.Passed.{file-numbered, refusal-most}
 use Rattle.trialfile.proofs.RoundTrip.{read-accepted}
 use Rattle.filerun.specs.FileRuns.{acceptedFile, refusedFile, fileRun}

@@ -22,7 +22,7 @@ use Rattle.stepdown.proofs.Accepted.{accepted}
 use Rattle.stepdown.proofs.Calls.{table-ready}
 use Rattle.verdicts.specs.Verdicts.{rejectedCount, smallSteps}
 use Rattle.verdicts.proofs.StepNumbers.{answer-steps}
-use Rattle.trialfile.proofs.Checks.{Numbered, orElse, first-append, first-most}
+use Rattle.stepdown.proofs.Refusals.{Numbered, orElse, first-append, first-most}
 use Rattle.host.specs.Calls.{stepBytes, tableVerdictsRefusal, tableVerdictsAnswer, tableVerdictsWork, tableVerdictsBuffer}
 use Rattle.host.proofs.Returned.{returned-refused, returned-count, buffer-kept, buffer-new}
 

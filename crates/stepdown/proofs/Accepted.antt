@@ -1,11 +1,12 @@
 -- What an accepted table, level or shape is known to be.
 --   none-holds     where no condition decides, none holds
+--   Sizes          what it is to pass 4, for any two limits
 --   Shape, Level   what it is to pass 4 and 3
 --   accepted       what it is for a table to be accepted
-use Prim.Native.Nat.{ℕ, zero, suc, _*_, _/_, _≤_, _<_}
+use Prim.Native.Nat.{ℕ, zero, suc, _*_, _≤_, _<_}
 use native.Mathlib.Omega.{arith}
 use native.Mathlib.Nat.{div-lt-iff-lt-mul, mul-lt-mul-of-pos-right, mul-comm}
-use mathlib.Core.Path.{_≡_, refl, sym, ap, _∙_, subst}
+use mathlib.Core.Path.{_≡_, refl, sym, subst}
 use mathlib.Core.Bool.{Bool, true, false, not, cond, _||_}
 use mathlib.Core.List.{List, [], _∷_}
 use lib.ListN.{length}
@@ -17,7 +18,7 @@ use Rattle.order.proofs.Booleans.{true-T, and-left, and-right}
 use Rattle.order.specs.Counting.{all}
 use Rattle.select.proofs.Ranks.{Finite}
 use Rattle.stepdown.specs.Tables.{allowance}
-use Rattle.stepdown.specs.Refusals.{Checks, firstRefusal, outside, badShape, badLevel, badValue, tableChecks, tableRefusal}
+use Rattle.stepdown.specs.Refusals.{Checks, firstRefusal, outside, badSizes, badShape, badLevel, badValue, tableChecks, tableRefusal}
 
 abbrev pub NoneHolds : Checks → Type 0
 NoneHolds [] = Unit {0}
@@ -40,25 +41,32 @@ or-none false c h = (refl, h)
 pub inside : (low high n : ℕ) → outside low high n ≡ false → (low ≤ n) × (n ≤ high)
 inside low high n h = let f = or-none (ltb n low) (ltb high n) h in (ltb-false n low (f .0), ltb-false high n (f .1))
 
-pub record Shape (rows columns k : ℕ) : Type 0 where
+-- what it is to pass 4 with at most m rows and n columns
+pub record Sizes (m n rows columns k : ℕ) : Type 0 where
   pub rows-some : 1 ≤ rows
-  pub rows-most : rows ≤ 4096
+  pub rows-most : rows ≤ m
   pub columns-some : 1 ≤ columns
-  pub columns-most : columns ≤ 32
+  pub columns-most : columns ≤ n
   pub k-some : 1 ≤ k
   pub k-most : k ≤ 4
   pub k-held : k ≤ columns
 
-pub shape : (rows columns k : ℕ) → badShape rows columns k ≡ false → Shape rows columns k
-unfolding badShape
-shape rows columns k h =
-    let f = or-none (outside 1 4096 rows) (outside 1 32 columns || (outside 1 4 k || ltb columns k)) h in
-    let g = or-none (outside 1 32 columns) (outside 1 4 k || ltb columns k) (f .1) in
+pub sizes : (m n rows columns k : ℕ) → badSizes m n rows columns k ≡ false → Sizes m n rows columns k
+unfolding badSizes
+sizes m n rows columns k h =
+    let f = or-none (outside 1 m rows) (outside 1 n columns || (outside 1 4 k || ltb columns k)) h in
+    let g = or-none (outside 1 n columns) (outside 1 4 k || ltb columns k) (f .1) in
     let i = or-none (outside 1 4 k) (ltb columns k) (g .1) in
-    let r = inside 1 4096 rows (f .0) in
-    let c = inside 1 32 columns (g .0) in
+    let r = inside 1 m rows (f .0) in
+    let c = inside 1 n columns (g .0) in
     let j = inside 1 4 k (i .0) in
     record { rows-some = r .0; rows-most = r .1; columns-some = c .0; columns-most = c .1; k-some = j .0; k-most = j .1; k-held = ltb-false columns k (i .1) }
+
+abbrev pub Shape : ℕ → ℕ → ℕ → Type 0
+Shape rows columns k = Sizes 4096 32 rows columns k
+
+pub shape : (rows columns k : ℕ) → badShape rows columns k ≡ false → Shape rows columns k
+shape rows columns k h = sizes 4096 32 rows columns k h
 
 pub record Level (a b : ℕ) : Type 0 where
   pub a-some : 0 < a

@@ -5,11 +5,11 @@
 use Prim.Native.Nat.{ℕ, zero, suc, _+_, _-_, _*_, _^_, _≤_, _<_}
 use native.Mathlib.Omega.{arith}
 use native.Mathlib.Decide.{decLe}
-use mathlib.Core.Path.{_≡_, refl, sym, ap, ap₂, _∙_, subst}
+use mathlib.Core.Path.{_≡_, refl, sym, ap, ap₂, _∙_}
 use mathlib.Core.Bool.{Bool, true, false, not, cond, _&&_, _||_}
 use mathlib.Core.List.{List, [], _∷_, _++_}
 use lib.ListN.{length, drop, replicate}
-use lib.Dec.{T, ltb, leb, eqb}
+use lib.Dec.{ltb, leb, eqb}
 use lib.Pow.{pow-pos}
 use lib.Ieee.{Float}
 use borrow.Author.Tests.{eq-eqb, ne-eqb, lt-ltb, ltb-false, leb-false, eqb-true, not-false}
@@ -19,17 +19,17 @@ use Rattle.order.proofs.Booleans.{true-T, never, or-passes}
 use Rattle.stepdown.specs.Tables.{rowsOf}
 use Rattle.stepdown.specs.Columns.{size, columnsOf, everyColumn}
 use Rattle.stepdown.specs.Runs.{begun, rejectedSet, after, recordOf}
-use Rattle.stepdown.specs.Refusals.{Checks, firstRefusal, badShape, badLevel, badValue, beginRefusal, badFigures, badProgress, spoiled, stepRefusal, tableChecks, tableRunRefusal}
+use Rattle.stepdown.specs.Refusals.{Checks, badShape, badLevel, badValue, beginRefusal, badProgress, spoiled, stepRefusal, tableChecks, tableRunRefusal}
 use Rattle.stepdown.specs.Buffers.{cleared}
 use Rattle.stepdown.specs.Answers.{beginAnswer, refusalOfBeginning, stepAnswer, stepWork, refusalOfStep}
 use Rattle.stepdown.specs.Internal.{Ready, Going, advanced}
 use Rattle.stepdown.specs.declared.Run.{Run}
 use Rattle.stepdown.specs.declared.Step.{Step}
-use Rattle.stepdown.specs.declared.Beginning.{Beginning}
 use Rattle.stepdown.specs.declared.Beginning.the-variants as beginning
 use Rattle.stepdown.specs.declared.StepAnswer.{StepAnswer}
 use Rattle.stepdown.specs.declared.StepAnswer.the-variants as stepping
-use Rattle.stepdown.proofs.Accepted.{NoneHolds, none-holds, or-none, Shape, shape, Level, level}
+use Rattle.stepdown.proofs.Accepted.{NoneHolds, none-holds, or-none, shape, level}
+use Rattle.stepdown.proofs.Refusals.{given-refused, given-done}
 use Rattle.stepdown.proofs.Spoiling.{Figures, figures, spoiled-none}
 
 -- ---- what is known of a run that can be stepped
@@ -185,16 +185,13 @@ module _ (t : List Float) (rows columns k a b observed places : ℕ) (h : tableR
 -- ---- beginning
 
 module _ (rows columns k a b observed : ℕ) where
-  answer : ℕ → Beginning
-  answer m = cond (eqb m 0) (beginning.Begun (begun rows columns k a b observed)) (beginning.Refused m)
-
   pub begin-refused : (n : ℕ) → n ≡ beginRefusal rows columns k a b observed → (n ≡ 0 → ⊥) → beginning.Refused n ≡ beginAnswer rows columns k a b observed
-  unfolding beginAnswer answer
-  begin-refused n e f = sym (ap (λ (x : Bool). cond x (beginning.Begun (begun rows columns k a b observed)) (beginning.Refused n)) (ne-eqb n 0 f)) ∙ ap answer e
+  unfolding beginAnswer
+  begin-refused n e f = given-refused n _ e (beginning.Begun (begun rows columns k a b observed)) beginning.Refused f
 
   pub begin-on : (n : ℕ) → n ≡ beginRefusal rows columns k a b observed → n ≡ 0 → beginning.Begun (begun rows columns k a b observed) ≡ beginAnswer rows columns k a b observed
-  unfolding beginAnswer answer
-  begin-on n e f = sym (ap (λ (x : Bool). cond x (beginning.Begun (begun rows columns k a b observed)) (beginning.Refused n)) (eq-eqb n 0 f)) ∙ ap answer e
+  unfolding beginAnswer
+  begin-on n e z = given-done n _ e (beginning.Begun (begun rows columns k a b observed)) beginning.Refused z
 
 -- ---- a step
 
@@ -205,20 +202,20 @@ module _ (t : List Float) (r : Run) (work : List Float) where
   module _ (n : ℕ) (e : n ≡ stepRefusal t r (length work)) where
     pub step-refused : (n ≡ 0 → ⊥) → stepping.Refused n ≡ stepAnswer t r (length work)
     unfolding stepAnswer stepped
-    step-refused f = sym (ap (λ (b : Bool). cond b stepped (stepping.Refused n)) (ne-eqb n 0 f)) ∙ ap (λ (m : ℕ). cond (eqb m 0) stepped (stepping.Refused m)) e
+    step-refused f = given-refused n _ e stepped stepping.Refused f
 
     pub work-kept : (n ≡ 0 → ⊥) → work ≡ stepWork t r work
     unfolding stepWork
-    work-kept f = sym (ap (λ (b : Bool). cond b (cleared (r .rows) work) work) (ne-eqb n 0 f)) ∙ ap (λ (m : ℕ). cond (eqb m 0) (cleared (r .rows) work) work) e
+    work-kept f = given-refused n _ e (cleared (r .rows) work) (λ _. work) f
 
     pub step-on : (s : Step) → n ≡ 0 → s ≡ advanced t r → stepping.Stepped (s .run) (s .mark) ≡ stepAnswer t r (length work)
     unfolding stepAnswer stepped advanced
-    step-on s z q = ap (λ (x : Step). stepping.Stepped (x .run) (x .mark)) q ∙ sym (ap (λ (b : Bool). cond b stepped (stepping.Refused n)) (eq-eqb n 0 z)) ∙ ap (λ (m : ℕ). cond (eqb m 0) stepped (stepping.Refused m)) e
+    step-on s z q = ap (λ (x : Step). stepping.Stepped (x .run) (x .mark)) q ∙ given-done n _ e stepped stepping.Refused z
 
     -- beyond the first rows the buffer is as it was, and those are cleared
     pub work-cleared : (w w′ : List Float) → n ≡ 0 → drop (r .rows) w ≡ drop (r .rows) work → w′ ≡ cleared (r .rows) w → w′ ≡ stepWork t r work
     unfolding stepWork
-    work-cleared w w′ z d q = q ∙ ap (λ (l : List Float). replicate (r .rows) plusZero ++ l) d ∙ sym (ap (λ (b : Bool). cond b (cleared (r .rows) work) work) (eq-eqb n 0 z)) ∙ ap (λ (m : ℕ). cond (eqb m 0) (cleared (r .rows) work) work) e
+    work-cleared w w′ z d q = q ∙ ap (λ (l : List Float). replicate (r .rows) plusZero ++ l) d ∙ given-done n _ e (cleared (r .rows) work) (λ _. work) z
 
 -- ---- the paper's number for each case of an answer
 

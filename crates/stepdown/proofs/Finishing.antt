@@ -2,21 +2,19 @@
 --   partialRun        with the verdicts and counts of the first j columns
 --   trace-verdict     a verdict read off the trace of steps is the verdict of those steps
 --   full-is           the whole: what the steps of an accepted table make is the answer of its full run
-use Prim.Native.Nat.{ℕ, zero, suc, _+_, _-_, _*_, _^_, _≤_, _<_}
+use Prim.Native.Nat.{ℕ, _+_, _-_, _*_, _≤_, _<_}
 use native.Mathlib.Omega.{arith}
 use mathlib.Core.Path.{_≡_, refl, sym, ap, ap₂, _∙_, subst}
-use mathlib.Core.Bool.{Bool, true, false, cond}
+use mathlib.Core.Bool.{cond}
 use mathlib.Core.List.{List, [], _∷_, _++_, map}
-use lib.ListN.{length, getD, take, drop, set, replicate, length-map}
+use lib.ListN.{length, getD, drop, set, replicate, length-map}
 use lib.Seq.{take-at}
-use lib.Dec.{T, eqb}
 use lib.Ieee.{Float, nan}
-use borrow.Author.Tests.{eq-eqb, ne-eqb}
 use Rattle.order.specs.Order.{plusZero}
 use Rattle.stepdown.specs.Tables.{rowsOf}
 use Rattle.stepdown.specs.Columns.{Columns, inSet, everyColumn}
 use Rattle.stepdown.specs.Method.{atLeast}
-use Rattle.stepdown.specs.Runs.{Outcome, begun, stepsOf, verdictFrom, verdictOf, tabulate, fullRun, tableRun}
+use Rattle.stepdown.specs.Runs.{begun, stepsOf, verdictFrom, verdictOf, tabulate, fullRun, tableRun}
 use Rattle.stepdown.specs.Refusals.{tableRunRefusal}
 use Rattle.stepdown.specs.Buffers.{cleared, padded}
 use Rattle.stepdown.specs.Answers.{noRecord, judgedAs, blankRun, acceptedRun, fullAnswer, fullWork}
@@ -32,6 +30,7 @@ use Rattle.stepdown.specs.declared.tracing.Trace.{Trace}
 use Rattle.stepdown.proofs.Rows.{row-entry}
 use Rattle.stepdown.proofs.Tabulate.{tabulate-length, tabulate-same}
 use Rattle.stepdown.proofs.Traces.{padded-length, set-padded, tabulate-more, map-more}
+use Rattle.stepdown.proofs.Refusals.{given-refused, given-done}
 use Rattle.stepdown.proofs.Following.{steps-few}
 
 module _ (t : Trace) (table : List Float) (rows columns observed : ℕ) where
@@ -112,22 +111,22 @@ module _ (table : List Float) (rows columns k a b observed : ℕ) where
   module _ (work : List Float) (n : ℕ) (e : n ≡ tableRunRefusal table rows columns k a b observed (length work)) where
     pub full-refused : (r : FullRun) → (n ≡ 0 → ⊥) → r ≡ blankRun n → r ≡ fullAnswer table rows columns k a b observed (length work)
     unfolding fullAnswer
-    full-refused r f q = q ∙ sym (ap (λ (x : Bool). cond x (acceptedRun (tableRun table rows columns k a b observed)) (blankRun n)) (ne-eqb n 0 f)) ∙ ap (λ (m : ℕ). cond (eqb m 0) (acceptedRun (tableRun table rows columns k a b observed)) (blankRun m)) e
+    full-refused r f q = q ∙ given-refused n _ e (acceptedRun (tableRun table rows columns k a b observed)) blankRun f
 
     pub work-same : (n ≡ 0 → ⊥) → work ≡ fullWork table rows columns k a b observed work
     unfolding fullWork
-    work-same f = sym (ap (λ (x : Bool). cond x (cleared rows work) work) (ne-eqb n 0 f)) ∙ ap (λ (m : ℕ). cond (eqb m 0) (cleared rows work) work) e
+    work-same f = given-refused n _ e (cleared rows work) (λ _. work) f
 
     pub full-is : (t : Trace) (r : FullRun) → n ≡ 0 → observed < rows → t ≡ traceOf (stepsOf (everyColumn columns) (rowsOf rows columns table) (begun rows columns k a b observed)) → r ≡ finishedRun t table rows columns observed
         → r ≡ fullAnswer table rows columns k a b observed (length work)
     unfolding fullAnswer ss
     full-is t r z h p q =
         q ∙ ap (λ (x : Trace). finishedRun x table rows columns observed) p ∙ finished-is h
-        ∙ sym (ap (λ (x : Bool). cond x (acceptedRun (tableRun table rows columns k a b observed)) (blankRun n)) (eq-eqb n 0 z)) ∙ ap (λ (m : ℕ). cond (eqb m 0) (acceptedRun (tableRun table rows columns k a b observed)) (blankRun m)) e
+        ∙ given-done n _ e (acceptedRun (tableRun table rows columns k a b observed)) blankRun z
 
     pub work-zeroed : (w w′ : List Float) → n ≡ 0 → drop rows w ≡ drop rows work → w′ ≡ cleared rows w → w′ ≡ fullWork table rows columns k a b observed work
     unfolding fullWork
-    work-zeroed w w′ z d q = q ∙ ap (λ (l : List Float). replicate rows plusZero ++ l) d ∙ sym (ap (λ (x : Bool). cond x (cleared rows work) work) (eq-eqb n 0 z)) ∙ ap (λ (m : ℕ). cond (eqb m 0) (cleared rows work) work) e
+    work-zeroed w w′ z d q = q ∙ ap (λ (l : List Float). replicate rows plusZero ++ l) d ∙ given-done n _ e (cleared rows work) (λ _. work) z
 
 pub traced-run : (live : Columns) (X : List (List Float)) (r : Run) (t : Trace) → t ≡ traceOf (stepsOf live X r) → Traced t
 traced-run live X r t e = subst (λ (x : Trace). Traced x) (sym e) (trace-typed (stepsOf live X r) (steps-few live X r))

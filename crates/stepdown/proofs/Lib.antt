@@ -18,6 +18,7 @@ pub mod Tabulate
 pub mod Rows
 pub mod Steps
 pub mod Accepted
+pub mod Refusals
 pub mod Begun
 pub mod Ending
 pub mod Falling

@@ -2,6 +2,7 @@
 --   Checks                  conditions with their numbers, in order
 --   firstRefusal checks     the number of the first condition that holds, and 0 where none does
 --   outside low high n      n is not from low to high
+--   badSizes m n rows columns k      the condition of 4 with at most m rows and n columns: a count or k outside its range, or k above the columns
 --   badShape, badLevel      the conditions of 4 (for a table) and of 3
 --   badValue t              the condition of 11: a value is infinite or no number
 --   tooShort places needed  12, the last of every list: a lent buffer has fewer places than are needed
@@ -32,8 +33,11 @@ firstRefusal (c ∷ cs) = cond (c .0) (c .1) (firstRefusal cs)
 abbrev pub outside : ℕ → ℕ → ℕ → Bool
 outside low high n = ltb n low || ltb high n
 
-unfoldable pub badShape : ℕ → ℕ → ℕ → Bool
-badShape rows columns k = outside 1 4096 rows || (outside 1 32 columns || (outside 1 4 k || ltb columns k))
+unfoldable pub badSizes : ℕ → ℕ → ℕ → ℕ → ℕ → Bool
+badSizes m n rows columns k = outside 1 m rows || (outside 1 n columns || (outside 1 4 k || ltb columns k))
+
+abbrev pub badShape : ℕ → ℕ → ℕ → Bool
+badShape rows columns k = badSizes 4096 32 rows columns k
 
 unfoldable pub badLevel : ℕ → ℕ → Bool
 badLevel a b = eqb a 0 || (eqb b 0 || (leb b a || ltb 16383 b))
@@ -49,7 +53,7 @@ tooShort places needed = (ltb places needed, 12) ∷ []
 -- ---- a table
 
 unfoldable pub tableChecks : List Float → ℕ → ℕ → ℕ → ℕ → ℕ → ℕ → Checks
-unfolding badShape badLevel badValue
+unfolding badSizes badLevel badValue
 tableChecks t rows columns k a b observed =
     (badShape rows columns k, 4)
     ∷ (badLevel a b, 3)
@@ -69,7 +73,7 @@ tableRunRefusal t rows columns k a b observed places = firstRefusal (tableChecks
 -- ---- beginning a run
 
 unfoldable pub beginRefusal : ℕ → ℕ → ℕ → ℕ → ℕ → ℕ → ℕ
-unfolding firstRefusal badShape badLevel
+unfolding firstRefusal badSizes badLevel
 beginRefusal rows columns k a b observed =
     firstRefusal ((badShape rows columns k, 4) ∷ (badLevel a b, 3) ∷ (leb rows observed, 10) ∷ [])
 
@@ -77,7 +81,7 @@ beginRefusal rows columns k a b observed =
 
 -- its own figures break 3, 4 or 10
 unfoldable pub badFigures : Run → Bool
-unfolding badShape badLevel
+unfolding badSizes badLevel
 badFigures r = badShape (r .rows) (r .columns) (r .k) || (badLevel (r .a) (r .b) || leb (r .rows) (r .observed))
 
 -- a rejected offer that the table hasn't, by the run's own columns; more than 32 steps;

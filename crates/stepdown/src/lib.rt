@@ -12,6 +12,7 @@ mod tracing; // all steps of a run, and the verdicts read off them
 
 // Conditions that a trial's values are judged by too.
 pub use refusal::bad_level;
+pub use refusal::bad_sizes;
 pub use refusal::outside;
 ghost use mathlib.Core.Path.{_≡_};
 ghost use lib.ListN.{length};

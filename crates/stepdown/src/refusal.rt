@@ -16,20 +16,26 @@ pub fn outside(low: usize, high: usize, n: usize) -> bool
     high < n
 }
 
-// The condition of 4.
-fn bad_shape(rows: usize, columns: usize, k: usize) -> bool
-    ensures { λ r. ⌜ r ≡ refusals.badShape rows columns k ⌝ }
+// The condition of 4 with at most m rows and n columns.
+pub fn bad_sizes(m: usize, n: usize, rows: usize, columns: usize, k: usize) -> bool
+    ensures { λ r. ⌜ r ≡ refusals.badSizes m n rows columns k ⌝ }
 {
-    if outside(1, 4096, rows) {
+    if outside(1, m, rows) {
         return true;
     }
-    if outside(1, 32, columns) {
+    if outside(1, n, columns) {
         return true;
     }
     if outside(1, 4, k) {
         return true;
     }
     columns < k
+}
+
+fn bad_shape(rows: usize, columns: usize, k: usize) -> bool
+    ensures { λ r. ⌜ r ≡ refusals.badShape rows columns k ⌝ }
+{
+    bad_sizes(4096, 32, rows, columns, k)
 }
 
 // The condition of 3.

@@ -1,21 +1,20 @@
 -- What an accepted trial is known to be.
 use Prim.Native.Nat.{ℕ, _*_, _≤_}
 use mathlib.Core.Path.{_≡_, sym, subst}
-use mathlib.Core.Bool.{Bool, false, not, _||_}
+use mathlib.Core.Bool.{Bool, false, not}
 use mathlib.Core.List.{List, [], _∷_}
 use lib.ListN.{take}
 use lib.Dec.{T, ltb}
 use lib.IntN.{ℤ}
-use borrow.Author.Tests.{ltb-false}
 use Rattle.order.proofs.Booleans.{and-both}
 use Rattle.order.specs.Counting.{all}
 use Rattle.order.proofs.Counts.{all-append}
-use Rattle.stepdown.specs.Refusals.{outside}
-use Rattle.stepdown.proofs.Accepted.{NoneHolds, none-holds, or-none, inside, Level, level}
-use Rattle.trial.specs.Refusals.{badCounts, badDifference, offerChecks, differenceChecks, trialChecks, trialRefusal}
+use Rattle.stepdown.specs.Refusals.{badLevel}
+use Rattle.stepdown.proofs.Accepted.{NoneHolds, none-holds, sizes, Level, level}
+use Rattle.stepdown.proofs.Refusals.{Numbered, none-append}
+use Rattle.trial.specs.Refusals.{badDifference, offerChecks, differenceChecks, trialChecks, trialRefusal}
 use Rattle.trial.specs.declared.Trial.{Trial}
 use Rattle.trial.proofs.Sums.{InRange}
-use Rattle.trial.proofs.Refusals.{Numbered, none-append}
 
 -- ---- every number of the list is above 0
 
@@ -45,27 +44,6 @@ differences-in (d ∷ ds) h = and-both (not (badDifference d)) (all (λ d. not (
 
 -- ---- what is known
 
--- what it is to pass 4
-pub record Counted (k offers pairs : ℕ) : Type 0 where
-  pub pairs-some : 1 ≤ pairs
-  pub pairs-most : pairs ≤ 9
-  pub offers-some : 1 ≤ offers
-  pub offers-most : offers ≤ 16
-  pub k-some : 1 ≤ k
-  pub k-most : k ≤ 4
-  pub k-held : k ≤ offers
-
-pub counted : (k offers pairs : ℕ) → badCounts k offers pairs ≡ false → Counted k offers pairs
-unfolding badCounts
-counted k offers pairs h =
-    let p = or-none (outside 1 9 pairs) (outside 1 16 offers || (outside 1 4 k || ltb offers k)) h in
-    let o = or-none (outside 1 16 offers) (outside 1 4 k || ltb offers k) (p .1) in
-    let q = or-none (outside 1 4 k) (ltb offers k) (o .1) in
-    let ps = inside 1 9 pairs (p .0) in
-    let os = inside 1 16 offers (o .0) in
-    let ks = inside 1 4 k (q .0) in
-    record { pairs-some = ps .0; pairs-most = ps .1; offers-some = os .0; offers-most = os .1; k-some = ks .0; k-most = ks .1; k-held = ltb-false offers k (q .1) }
-
 pub record Accepted (t : Trial) : Type 0 where
   pub pairs-some : 1 ≤ t .pairs
   pub pairs-most : t .pairs ≤ 9
@@ -74,6 +52,7 @@ pub record Accepted (t : Trial) : Type 0 where
   pub k-some : 1 ≤ t .k
   pub k-most : t .k ≤ 4
   pub k-held : t .k ≤ t .offers
+  pub level-good : badLevel (t .a) (t .b) ≡ false
   pub levelled : Level (t .a) (t .b)
   pub in-range : InRange (take (t .offers * t .pairs) (t .differences))
 
@@ -84,15 +63,16 @@ accepted t h =
     let ds = take (t .offers) (t .digits) in
     let xs = take (t .offers * t .pairs) (t .differences) in
     let f = none-holds (trialChecks t) (trialChecks-numbered t) h in
-    let c = counted (t .k) (t .offers) (t .pairs) (f .0) in
+    let c = sizes 9 16 (t .pairs) (t .offers) (t .k) (f .0) in
     record {
-      pairs-some = c .pairs-some;
-      pairs-most = c .pairs-most;
-      offers-some = c .offers-some;
-      offers-most = c .offers-most;
+      pairs-some = c .rows-some;
+      pairs-most = c .rows-most;
+      offers-some = c .columns-some;
+      offers-most = c .columns-most;
       k-some = c .k-some;
       k-most = c .k-most;
       k-held = c .k-held;
+      level-good = f .1 .0;
       levelled = level (t .a) (t .b) (f .1 .0);
       in-range = differences-in xs (none-append (offerChecks [] cs ds) (differenceChecks xs) (f .1 .1) .1);
     }

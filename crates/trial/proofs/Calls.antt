@@ -6,22 +6,22 @@
 use Prim.Native.Nat.{ℕ, _*_, _^_, _≤_, _<_}
 use native.Mathlib.Omega.{arith}
 use native.Mathlib.Nat.{mul-le-mul}
-use mathlib.Core.Path.{_≡_, sym, ap, _∙_}
+use mathlib.Core.Path.{_≡_, refl, sym, ap, _∙_}
 use mathlib.Core.Bool.{Bool, cond}
 use mathlib.Core.List.{List}
 use lib.ListN.{length}
-use lib.Dec.{ltb, eqb}
+use lib.Dec.{ltb}
 use lib.Pow.{pow-mono}
 use lib.Ieee.{Float}
-use borrow.Author.Tests.{lt-ltb, le-ltb, ne-eqb}
+use borrow.Author.Tests.{lt-ltb, le-ltb}
 use Rattle.stepdown.specs.Buffers.{written}
 use Rattle.stepdown.specs.Refusals.{firstRefusal, tooShort}
+use Rattle.stepdown.proofs.Refusals.{first-decides, first-passes, given-refused, given-done}
 use Rattle.trial.specs.Exchange.{rowTotal, tableOf}
 use Rattle.trial.specs.Refusals.{trialChecks, trialRefusal}
 use Rattle.trial.specs.Lent.{tableCallRefusal, tableBuffer}
 use Rattle.trial.specs.declared.Trial.{Trial}
 use Rattle.trial.proofs.Accepted.{Accepted, accepted, trialChecks-numbered}
-use Rattle.trial.proofs.Refusals.{refused-first, refused-next}
 
 -- ---- how many places
 
@@ -38,16 +38,16 @@ module _ (t : Trial) (buf : List Float) where
   -- a refused call leaves the buffer as it was
   pub buffer-kept : (n : ℕ) → n ≡ tableCallRefusal t (length buf) → (n ≡ 0 → ⊥) → buf ≡ tableBuffer t buf
   unfolding tableBuffer
-  buffer-kept n e h = ap (λ (b : Bool). cond b (written (tableOf t) buf) buf) (sym (ap (λ (m : ℕ). eqb m 0) (sym e) ∙ ne-eqb n 0 h))
+  buffer-kept n e h = given-refused n _ e (written (tableOf t) buf) (λ _. buf) h
 
   pub buffer-written : 0 ≡ tableCallRefusal t (length buf) → written (tableOf t) buf ≡ tableBuffer t buf
   unfolding tableBuffer
-  buffer-written e = ap (λ (b : Bool). cond b (written (tableOf t) buf) buf) (sym (ap (λ (m : ℕ). eqb m 0) (sym e)))
+  buffer-written e = given-done 0 _ e (written (tableOf t) buf) (λ _. buf) refl
 
   module _ (r : ℕ) (e : r ≡ trialRefusal t) where
     first-of : (r ≡ 0 → ⊥) → r ≡ tableCallRefusal t (length buf)
     unfolding tableCallRefusal trialRefusal
-    first-of h = refused-first (trialChecks t) (tooShort (length buf) (rowTotal t * t .offers)) r e h
+    first-of h = sym (first-decides (trialChecks t) (tooShort (length buf) (rowTotal t * t .offers)) (trialChecks-numbered t) r e h)
 
     -- the record is turned away
     pub call-refused : (r ≡ 0 → ⊥) → (r ≡ tableCallRefusal t (length buf)) × (buf ≡ tableBuffer t buf)
@@ -60,7 +60,7 @@ module _ (t : Trial) (buf : List Float) where
       last-of : tableCallRefusal t (length buf) ≡ cond (ltb (length buf) total) 12 0
       unfolding tableCallRefusal trialRefusal firstRefusal
       last-of =
-          refused-next (trialChecks t) (tooShort (length buf) (rowTotal t * t .offers)) (trialChecks-numbered t) (sym e ∙ h)
+          first-passes (trialChecks t) (tooShort (length buf) (rowTotal t * t .offers)) (trialChecks-numbered t) r e h
           ∙ ap (λ (n : ℕ). cond (ltb (length buf) n) 12 0) (sym q)
 
       -- the buffer is too short

@@ -8,7 +8,7 @@ use Prim.Native.Nat.{ℕ, zero, suc, _+_, _-_, _*_, _^_, _≤_, _<_}
 use native.Mathlib.Numerals.{add-one}
 use native.Mathlib.Omega.{arith}
 use native.Mathlib.Nat.{mul-le-mul}
-use mathlib.Core.Path.{_≡_, refl, sym, ap, ap₂, _∙_, subst}
+use mathlib.Core.Path.{_≡_, refl, sym, ap, _∙_, subst}
 use mathlib.Core.Bool.{Bool, true, false, cond, _||_}
 use mathlib.Core.List.{List, [], _∷_, _++_}
 use lib.ListN.{length, getD, take}
@@ -23,11 +23,11 @@ use borrow.Author.Tests.{ltb-true, ltb-false, lt-ltb, le-ltb, eq-eqb, ne-eqb}
 use Rattle.order.specs.Counting.{all}
 use Rattle.order.proofs.Booleans.{or-holds, or-passes}
 use Rattle.stepdown.specs.Refusals.{Checks, firstRefusal, outside, badLevel}
-use Rattle.stepdown.proofs.Accepted.{none-holds, inside}
+use Rattle.stepdown.proofs.Accepted.{none-holds, inside, sizes}
+use Rattle.stepdown.proofs.Refusals.{Numbered, judged, judged-last, first-decides, first-passes}
 use Rattle.trial.specs.Refusals.{badCounts, badDigits, has, earlierOf, badDifference, offerChecks, differenceChecks, trialChecks, trialRefusal}
 use Rattle.trial.specs.declared.Trial.{Trial}
-use Rattle.trial.proofs.Refusals.{judged, judged-last, refused-first, refused-next}
-use Rattle.trial.proofs.Accepted.{offers-numbered, counted}
+use Rattle.trial.proofs.Accepted.{offers-numbered}
 
 -- ---- 5
 
@@ -100,12 +100,12 @@ module _ (cs ds : List ℕ) (n i : ℕ) where
     here = judged b _ 5 r e _ s (judged-last q _ 6 s g six) five
 
     pub offers-refused : (r ≡ 0 → ⊥) → offersFrom i n cs ds ≡ r
-    unfolding rest
-    offers-refused z = offers-more h k l ∙ sym (refused-first offerAt rest r here z)
+    unfolding rest all
+    offers-refused z = offers-more h k l ∙ first-decides offerAt rest tt r here z
 
     pub offers-turn : r ≡ 0 → offersFrom i n cs ds ≡ offersFrom (i + 1) n cs ds
     unfolding rest offersFrom all
-    offers-turn z = offers-more h k l ∙ refused-next offerAt rest tt (sym here ∙ z)
+    offers-turn z = offers-more h k l ∙ first-passes offerAt rest tt r here z
 
   pub offers-none : n ≤ i → i ≤ n → offersFrom i n cs ds ≡ 0
   unfolding offersFrom firstRefusal offerChecks
@@ -172,24 +172,27 @@ module _ (t : Trial) (b l : Bool) (s r : ℕ) (counts : b ≡ badCounts (t .k) (
   figures = judged b _ 4 r counts _ s (judged-last l _ 3 s level three) four
 
   pub refusal-figures : (r ≡ 0 → ⊥) → r ≡ trialRefusal t
-  unfolding trialRefusal trialChecks
-  refusal-figures h = refused-first (figureChecks t) (codeChecks t ++ lastChecks t) r figures h
+  unfolding trialRefusal trialChecks all
+  refusal-figures h = sym (first-decides (figureChecks t) (codeChecks t ++ lastChecks t) tt r figures h)
 
   module _ (passed : r ≡ 0) where
     -- no more offers and pairs than the record has places for
     pub places-held : (t .offers ≤ 16) × (t .pairs ≤ 9) × (t .offers * t .pairs ≤ 144)
     unfolding all
-    places-held = let f = counted (t .k) (t .offers) (t .pairs) (none-holds (figureChecks t) tt (sym figures ∙ passed) .0) in (f .offers-most, f .pairs-most, mul-le-mul (f .offers-most) (f .pairs-most))
+    places-held = let f = sizes 9 16 (t .pairs) (t .offers) (t .k) (none-holds (figureChecks t) tt (sym figures ∙ passed) .0) in (f .columns-most, f .rows-most, mul-le-mul (f .columns-most) (f .rows-most))
 
     module _ (o : ℕ) (offers : o ≡ firstRefusal (codeChecks t)) where
+      codes-numbered : Numbered (codeChecks t)
+      codes-numbered = offers-numbered [] (take (t .offers) (t .codes)) (take (t .offers) (t .digits))
+
       past-figures : trialRefusal t ≡ firstRefusal (codeChecks t ++ lastChecks t)
       unfolding trialRefusal trialChecks all
-      past-figures = refused-next (figureChecks t) (codeChecks t ++ lastChecks t) tt (sym figures ∙ passed)
+      past-figures = first-passes (figureChecks t) (codeChecks t ++ lastChecks t) tt r figures passed
 
       pub refusal-offers : (o ≡ 0 → ⊥) → o ≡ trialRefusal t
-      refusal-offers h = refused-first (codeChecks t) (lastChecks t) o offers h ∙ sym past-figures
+      refusal-offers h = sym (past-figures ∙ first-decides (codeChecks t) (lastChecks t) codes-numbered o offers h)
 
       pub refusal-differences : o ≡ 0 → (d : ℕ) → d ≡ firstRefusal (lastChecks t) → d ≡ trialRefusal t
       refusal-differences h d e =
           e
-          ∙ sym (past-figures ∙ refused-next (codeChecks t) (lastChecks t) (offers-numbered [] (take (t .offers) (t .codes)) (take (t .offers) (t .digits))) (sym offers ∙ h))
+          ∙ sym (past-figures ∙ first-passes (codeChecks t) (lastChecks t) codes-numbered o offers h)

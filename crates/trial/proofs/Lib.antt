@@ -1,5 +1,4 @@
 pub mod Sums
-pub mod Refusals
 pub mod Accepted
 pub mod Tables
 pub mod Conditions

@@ -1,28 +1,29 @@
 -- The full run of a trial: its table is accepted, so the run is that of the table.
 --   table-accepted      the table of an accepted trial is an accepted one, whatever the work buffer's places, if they are enough
 --   run-..              each answer of the call, with its buffers
-use Prim.Native.Nat.{ℕ, zero, suc, _+_, _*_, _^_, _≤_, _<_}
+use Prim.Native.Nat.{ℕ, _+_, _*_, _^_, _≤_, _<_}
 use native.Mathlib.Omega.{arith}
-use mathlib.Core.Path.{_≡_, refl, sym, ap, ap₂, _∙_, subst}
-use mathlib.Core.Bool.{Bool, true, false, not, cond, _||_, _&&_}
+use mathlib.Core.Path.{_≡_, refl, sym, ap, ap₂, _∙_}
+use mathlib.Core.Bool.{Bool, false, not, cond}
 use mathlib.Core.List.{List, [], _∷_, _++_}
 use lib.ListN.{length, take, drop}
 use lib.Seq.{take-at}
-use lib.Dec.{T, ltb, leb, eqb}
+use lib.Dec.{T, ltb, eqb}
 use lib.Pow.{pow-mono}
 use lib.Ieee.{Float}
-use borrow.Author.Tests.{lt-ltb, le-ltb, le-leb, lt-leb, eq-eqb, ne-eqb, ltb-false}
+use borrow.Author.Tests.{lt-ltb, le-ltb, lt-leb, eq-eqb, ltb-false}
 use Rattle.order.specs.Order.{finite}
 use Rattle.order.specs.Counting.{all}
-use Rattle.order.proofs.Booleans.{T-true, and-left, and-right, not-no, passes}
+use Rattle.order.proofs.Booleans.{T-true, and-left, and-right, not-no}
 use Rattle.order.proofs.Counts.{all-append}
 use Rattle.stepdown.specs.Buffers.{written, cleared}
-use Rattle.stepdown.specs.Refusals.{Checks, firstRefusal, outside, badShape, badLevel, badValue, tableChecks, tableRefusal, tableRunRefusal, tooShort}
+use Rattle.stepdown.specs.Refusals.{firstRefusal, badSizes, badShape, badValue, tableChecks, tableRefusal, tableRunRefusal, tooShort}
 use Rattle.stepdown.specs.Runs.{tableRun}
 use Rattle.stepdown.specs.Answers.{acceptedRun, blankRun, fullAnswer, fullWork}
 use Rattle.stepdown.specs.declared.FullRun.{FullRun}
 use Rattle.stepdown.proofs.Critical.{soundRow}
-use Rattle.stepdown.proofs.Accepted.{Level}
+use Rattle.stepdown.proofs.Accepted.{none-holds}
+use Rattle.stepdown.proofs.Refusals.{neither, within, none-first, first-decides, first-passes, both-pass, given-refused, given-done}
 use Rattle.trial.specs.Exchange.{rowTotal, trialRows, joined, tableOf, trialRun}
 use Rattle.trial.specs.Refusals.{trialChecks, trialRefusal}
 use Rattle.trial.specs.Lent.{runCallRefusal, trialAnswer, runTable, runWork}
@@ -30,7 +31,6 @@ use Rattle.trial.specs.declared.Trial.{Trial}
 use Rattle.trial.proofs.Accepted.{Accepted, accepted, trialChecks-numbered}
 use Rattle.trial.proofs.Tables.{trialRows-sound, rowTotal-some}
 use Rattle.trial.proofs.Places.{tableOf-length}
-use Rattle.trial.proofs.Refusals.{refused-first, refused-next}
 
 -- ---- the table of an accepted trial
 
@@ -45,38 +45,33 @@ module _ (t : Trial) (a : Accepted t) where
   rows-most = pow-mono (a .pairs-most)
 
   shape-good : badShape (rowTotal t) (t .offers) (t .k) ≡ false
-  unfolding badShape
+  unfolding badSizes
   shape-good =
-      ap₂ (λ (x y : Bool). (x || y) || ((ltb (t .offers) 1 || ltb 32 (t .offers)) || ((ltb (t .k) 1 || ltb 4 (t .k)) || ltb (t .offers) (t .k)))) (le-ltb (rowTotal t) 1 (rowTotal-some t)) (le-ltb 4096 (rowTotal t) (omega (arith, rows-most)))
-      ∙ ap₂ (λ (x y : Bool). (x || y) || ((ltb (t .k) 1 || ltb 4 (t .k)) || ltb (t .offers) (t .k))) (le-ltb (t .offers) 1 (a .offers-some)) (le-ltb 32 (t .offers) (omega (arith, a .offers-most)))
-      ∙ ap₂ (λ (x y : Bool). (x || y) || ltb (t .offers) (t .k)) (le-ltb (t .k) 1 (a .k-some)) (le-ltb 4 (t .k) (a .k-most))
-      ∙ le-ltb (t .offers) (t .k) (a .k-held)
-
-  level-good : badLevel (t .a) (t .b) ≡ false
-  unfolding badLevel
-  level-good =
-      let l = a .levelled in
-      ap₂ (λ (x y : Bool). x || (y || (leb (t .b) (t .a) || ltb 16383 (t .b)))) (ne-eqb (t .a) 0 (λ e. omega (arith, l .a-some))) (ne-eqb (t .b) 0 (λ e. omega (arith, l .proper)))
-      ∙ ap₂ (λ (x y : Bool). x || y) (lt-leb (t .b) (t .a) (l .proper)) (le-ltb 16383 (t .b) (l .b-most))
+      neither (within 1 4096 (rowTotal t) (rowTotal-some t) (omega (arith, rows-most)))
+      (neither (within 1 32 (t .offers) (a .offers-some) (omega (arith, a .offers-most))) (neither (within 1 4 (t .k) (a .k-some) (a .k-most)) (le-ltb (t .offers) (t .k) (a .k-held))))
 
   values-good : badValue (tableOf t) ≡ false
   unfolding badValue tableOf
   values-good = ap not (T-true (all finite (tableOf t)) (joined-finite (t .offers) (trialRows t) (trialRows-sound t a)))
 
   pub table-accepted : tableRefusal (tableOf t) (rowTotal t) (t .offers) (t .k) (t .a) (t .b) 0 ≡ 0
-  unfolding tableRefusal tableChecks firstRefusal
-  table-accepted = sym (passes _ _ _ _ shape-good (passes _ _ _ _ level-good (passes _ _ _ _ (not-no _ (eq-eqb (length (tableOf t)) (rowTotal t * t .offers) (tableOf-length t))) (passes _ _ _ _ (lt-leb (rowTotal t) 0 (rowTotal-some t)) (passes _ _ _ _ values-good refl)))))
+  unfolding tableRefusal tableChecks
+  table-accepted =
+      none-first (tableChecks (tableOf t) (rowTotal t) (t .offers) (t .k) (t .a) (t .b) 0)
+      (shape-good, (a .level-good, (not-no _ (eq-eqb (length (tableOf t)) (rowTotal t * t .offers) (tableOf-length t)), (lt-leb (rowTotal t) 0 (rowTotal-some t), (values-good, tt)))))
 
   pub table-runs : (places : ℕ) → rowTotal t ≤ places → tableRunRefusal (tableOf t) (rowTotal t) (t .offers) (t .k) (t .a) (t .b) 0 places ≡ 0
-  unfolding tableRunRefusal tableChecks firstRefusal
-  table-runs places h = sym (passes _ _ _ _ shape-good (passes _ _ _ _ level-good (passes _ _ _ _ (not-no _ (eq-eqb (length (tableOf t)) (rowTotal t * t .offers) (tableOf-length t))) (passes _ _ _ _ (lt-leb (rowTotal t) 0 (rowTotal-some t)) (passes _ _ _ _ values-good (passes _ _ _ _ (le-ltb places (rowTotal t) h) refl))))))
+  unfolding tableRunRefusal tableRefusal tableChecks all
+  table-runs places h =
+      first-passes (tableChecks (tableOf t) (rowTotal t) (t .offers) (t .k) (t .a) (t .b) 0) (tooShort places (rowTotal t)) tt 0 (sym table-accepted) refl
+      ∙ none-first (tooShort places (rowTotal t)) (le-ltb places (rowTotal t) h, tt)
 
 -- ---- the refusal of the call
 
 module _ (t : Trial) (places work r : ℕ) (e : r ≡ trialRefusal t) where
   pub run-refused : (r ≡ 0 → ⊥) → r ≡ runCallRefusal t places work
   unfolding runCallRefusal trialRefusal
-  run-refused h = refused-first (trialChecks t) (tooShort places (rowTotal t * t .offers) ++ tooShort work (rowTotal t)) r e h
+  run-refused h = sym (first-decides (trialChecks t) (tooShort places (rowTotal t * t .offers) ++ tooShort work (rowTotal t)) (trialChecks-numbered t) r e h)
 
   pub run-known : r ≡ 0 → Accepted t
   run-known h = accepted t (sym e ∙ h)
@@ -88,7 +83,7 @@ module _ (t : Trial) (places work r : ℕ) (e : r ≡ trialRefusal t) where
 
     last : runCallRefusal t places work ≡ cond (ltb places (m * t .offers)) 12 (cond (ltb work m) 12 0)
     unfolding runCallRefusal trialRefusal firstRefusal
-    last = refused-next (trialChecks t) (tooShort places (rowTotal t * t .offers) ++ tooShort work (rowTotal t)) (trialChecks-numbered t) (sym e ∙ h)
+    last = first-passes (trialChecks t) (tooShort places (rowTotal t * t .offers) ++ tooShort work (rowTotal t)) (trialChecks-numbered t) r e h
         ∙ ap (λ (n : ℕ). cond (ltb places (n * t .offers)) 12 (cond (ltb work n) 12 0)) (sym m-is)
 
     pub run-short : places < m * t .offers → 12 ≡ runCallRefusal t places work
@@ -102,59 +97,40 @@ module _ (t : Trial) (places work r : ℕ) (e : r ≡ trialRefusal t) where
 
 -- ---- what is known of a call that is not refused
 
-none-first : (cs ds : Checks) → T (all (λ c. ltb 0 (c .1)) cs) → firstRefusal (cs ++ ds) ≡ 0 → (firstRefusal cs ≡ 0) × (firstRefusal ds ≡ 0)
-unfolding firstRefusal all
-none-first [] ds n h = (refl, h)
-none-first (c ∷ cs) ds n h = go (c .0) (lib.Dec.ltb→lt 0 (c .1) (and-left (ltb 0 (c .1)) (all (λ c. ltb 0 (c .1)) cs) n)) (none-first cs ds (and-right (ltb 0 (c .1)) (all (λ c. ltb 0 (c .1)) cs) n)) h
-  where
-    go : (b : Bool) → 0 < c .1 → (firstRefusal (cs ++ ds) ≡ 0 → (firstRefusal cs ≡ 0) × (firstRefusal ds ≡ 0)) → cond b (c .1) (firstRefusal (cs ++ ds)) ≡ 0 → (cond b (c .1) (firstRefusal cs) ≡ 0) × (firstRefusal ds ≡ 0)
-    go true p on h = absurd (omega arith)
-    go false p on h = on h
-
 pub record Runs (t : Trial) (places work : ℕ) : Type 0 where
   pub good : Accepted t
   pub table-room : rowTotal t * t .offers ≤ places
   pub work-room : rowTotal t ≤ work
 
 pub runs-known : (t : Trial) (places work : ℕ) → runCallRefusal t places work ≡ 0 → Runs t places work
-unfolding runCallRefusal trialRefusal firstRefusal
+unfolding runCallRefusal trialRefusal all
 runs-known t places work h =
-    let f = none-first (trialChecks t) (tooShort places (rowTotal t * t .offers) ++ tooShort work (rowTotal t)) (trialChecks-numbered t) h in
-    record { good = accepted t (f .0); table-room = both (f .1) .0; work-room = both (f .1) .1 }
-  where
-    both : firstRefusal (tooShort places (rowTotal t * t .offers) ++ tooShort work (rowTotal t)) ≡ 0 → (rowTotal t * t .offers ≤ places) × (rowTotal t ≤ work)
-    both q = go (ltb places (rowTotal t * t .offers)) (ltb work (rowTotal t)) (ltb-false places (rowTotal t * t .offers)) (ltb-false work (rowTotal t)) q
-      where
-        go : (b c : Bool) → (b ≡ false → rowTotal t * t .offers ≤ places) → (c ≡ false → rowTotal t ≤ work) → _≡_ {A = ℕ} (cond b 12 (cond c 12 0)) 0 → (rowTotal t * t .offers ≤ places) × (rowTotal t ≤ work)
-        go true c f g z = absurd (omega arith)
-        go false true f g z = absurd (omega arith)
-        go false false f g z = (f refl, g refl)
+    let f = both-pass (trialChecks t) (tooShort places (rowTotal t * t .offers) ++ tooShort work (rowTotal t)) (trialChecks-numbered t) h in
+    let s = none-holds (tooShort places (rowTotal t * t .offers) ++ tooShort work (rowTotal t)) tt (f .1) in
+    record { good = accepted t (f .0); table-room = ltb-false places (rowTotal t * t .offers) (s .0); work-room = ltb-false work (rowTotal t) (s .1 .0) }
 
 -- ---- the answers
 
 module _ (t : Trial) (table work : List Float) (n : ℕ) (e : n ≡ runCallRefusal t (length table) (length work)) where
   pub answer-refused : (r : FullRun) → (n ≡ 0 → ⊥) → r ≡ blankRun n → r ≡ trialAnswer t (length table) (length work)
   unfolding trialAnswer
-  answer-refused r f q = q ∙ sym (ap (λ (b : Bool). cond b (acceptedRun (trialRun t)) (blankRun n)) (ne-eqb n 0 f)) ∙ ap (λ (m : ℕ). cond (eqb m 0) (acceptedRun (trialRun t)) (blankRun m)) e
+  answer-refused r f q = q ∙ given-refused n _ e (acceptedRun (trialRun t)) blankRun f
 
   pub table-kept : (n ≡ 0 → ⊥) → table ≡ runTable t table (length work)
   unfolding runTable
-  table-kept f = sym (ap (λ (b : Bool). cond b (written (tableOf t) table) table) (ne-eqb n 0 f)) ∙ ap (λ (m : ℕ). cond (eqb m 0) (written (tableOf t) table) table) e
+  table-kept f = given-refused n _ e (written (tableOf t) table) (λ _. table) f
 
   pub work-kept : (n ≡ 0 → ⊥) → work ≡ runWork t (length table) work
   unfolding runWork
-  work-kept f = sym (ap (λ (b : Bool). cond b (cleared (rowTotal t) work) work) (ne-eqb n 0 f)) ∙ ap (λ (m : ℕ). cond (eqb m 0) (cleared (rowTotal t) work) work) e
+  work-kept f = given-refused n _ e (cleared (rowTotal t) work) (λ _. work) f
 
   module _ (z : n ≡ 0) where
-    known : Runs t (length table) (length work)
-    known = runs-known t (length table) (length work) (sym e ∙ z)
-
     pub call-known : Runs t (length table) (length work)
-    call-known = known
+    call-known = runs-known t (length table) (length work) (sym e ∙ z)
 
     pub table-written : (w : List Float) → w ≡ written (tableOf t) table → w ≡ runTable t table (length work)
     unfolding runTable
-    table-written w q = q ∙ sym (ap (λ (b : Bool). cond b (written (tableOf t) table) table) (eq-eqb n 0 z)) ∙ ap (λ (m : ℕ). cond (eqb m 0) (written (tableOf t) table) table) e
+    table-written w q = q ∙ given-done n _ e (written (tableOf t) table) (λ _. table) z
 
     module _ (m : ℕ) (q : m ≡ 2 ^ (t .pairs)) (w : List Float) (p : w ≡ written (tableOf t) table) where
       rows-are : m ≡ rowTotal t
@@ -165,7 +141,7 @@ module _ (t : Trial) (table work : List Float) (n : ℕ) (e : n ≡ runCallRefus
       front = ap (take (m * t .offers)) p ∙ take-at (tableOf t) (drop (length (tableOf t)) table) (m * t .offers) (tableOf-length t ∙ ap (λ (x : ℕ). x * t .offers) (sym rows-are))
 
       free : tableRunRefusal (tableOf t) (rowTotal t) (t .offers) (t .k) (t .a) (t .b) 0 (length work) ≡ 0
-      free = table-runs t (known .good) (length work) (known .work-room)
+      free = table-runs t (call-known .good) (length work) (call-known .work-room)
 
       answer-is : fullAnswer (take (m * t .offers) w) m (t .offers) (t .k) (t .a) (t .b) 0 (length work) ≡ acceptedRun (trialRun t)
       unfolding fullAnswer trialRun
@@ -175,7 +151,7 @@ module _ (t : Trial) (table work : List Float) (n : ℕ) (e : n ≡ runCallRefus
 
       pub answer-run : (r : FullRun) → r ≡ fullAnswer (take (m * t .offers) w) m (t .offers) (t .k) (t .a) (t .b) 0 (length work) → r ≡ trialAnswer t (length table) (length work)
       unfolding trialAnswer
-      answer-run r v = v ∙ answer-is ∙ sym (ap (λ (b : Bool). cond b (acceptedRun (trialRun t)) (blankRun n)) (eq-eqb n 0 z)) ∙ ap (λ (x : ℕ). cond (eqb x 0) (acceptedRun (trialRun t)) (blankRun x)) e
+      answer-run r v = v ∙ answer-is ∙ given-done n _ e (acceptedRun (trialRun t)) blankRun z
 
       pub work-done : (v : List Float) → v ≡ fullWork (take (m * t .offers) w) m (t .offers) (t .k) (t .a) (t .b) 0 work → v ≡ runWork t (length table) work
       unfolding fullWork runWork

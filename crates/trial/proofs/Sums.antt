@@ -1,19 +1,19 @@
 -- Laws of signed sums: how large they are, that they are finite as f64, and what a second exchange does.
 use Prim.Native.Nat.{ℕ, zero, suc, _+_, _-_, _*_, _/_, _%_, _^_, _≤_, _<_}
 use native.Mathlib.Omega.{arith}
-use native.Mathlib.Nat.{mod-lt, suc-mul}
-use mathlib.Core.Path.{_≡_, refl, sym, ap, ap₂, _∙_, subst}
-use mathlib.Core.Bool.{Bool, true, false, not, cond, _&&_}
+use native.Mathlib.Nat.{mod-lt}
+use mathlib.Core.Path.{_≡_, refl, sym, ap, ap₂, _∙_}
+use mathlib.Core.Bool.{Bool, true, false, not, cond}
 use mathlib.Core.List.{List, [], _∷_}
 use lib.ListN.{length}
-use lib.Dec.{T, ltb, leb, eqb, le→leb, lt→ltb}
-use lib.Bits.{bitXor, differ, xor-shr, xor-mod}
+use lib.Dec.{T, ltb, eqb}
+use lib.Bits.{bitXor, xor-shr, xor-mod}
 use lib.IntN.{ℤ, pos, negsuc, natAbs, negℤ, subℕ, _+ℤ_, negℤ-negℤ}
-use lib.Ieee.{Float, nan, inf, fin, binary64, ofInt, fits, inFloat}
+use lib.Ieee.{Float, nan, inf, fin, binary64, ofInt, fits}
 use lib.Ieee.Exact.{HasValue}
 use lib.Ieee.Back.{round-whole}
 use lib.Ieee.Fits.{ofInt-fits}
-use borrow.Author.Tests.{ltb-true, ltb-false}
+use borrow.Author.Tests.{ltb-true}
 use Rattle.order.specs.Order.{finite}
 use Rattle.order.proofs.Booleans.{and-left, and-right}
 use Rattle.order.specs.Counting.{all}

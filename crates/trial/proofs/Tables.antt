@@ -4,18 +4,18 @@ use native.Mathlib.Omega.{arith}
 use native.Mathlib.Nat.{suc-mul}
 use native.Mathlib.Decide.{decLe}
 use mathlib.Core.Path.{_≡_, refl, sym, ap, ap₂, _∙_, subst}
-use mathlib.Core.Bool.{Bool, true, false, not, _&&_}
-use mathlib.Core.List.{List, [], _∷_, _++_, map}
+use mathlib.Core.Bool.{Bool, not, _&&_}
+use mathlib.Core.List.{List, [], _∷_, _++_}
 use lib.ListN.{length, getD, take, drop, length-map, length-append, length-take, drop-of-length-le}
 use lib.Seq.{take-at, drop-at, take-take, take-add, take-nil, length-take-le}
 use lib.Dec.{T, eqb, leb, eqb-refl, eqb→eq, leb→le, le→leb}
-use lib.IntN.{ℤ, pos, natAbs}
+use lib.IntN.{ℤ, natAbs}
 use lib.Pow.{pow-pos}
-use lib.Ieee.{Float, nan, binary64, ofInt}
+use lib.Ieee.{Float, binary64, ofInt}
 use Rattle.order.specs.Order.{finite}
 use Rattle.order.proofs.Booleans.{and-both, and-left, and-right}
 use Rattle.order.specs.Counting.{all}
-use Rattle.order.proofs.Counts.{all-map, all-le, all-append, all-getD}
+use Rattle.order.proofs.Counts.{all-map, all-le}
 use Rattle.stepdown.specs.Tables.{rowsOf}
 use Rattle.stepdown.specs.Runs.{tabulate}
 use Rattle.stepdown.proofs.Tabulate.{tabulate-length, tabulate-getD}

@@ -21,7 +21,7 @@ use Rattle.stepdown.specs.Refusals.{Checks, firstRefusal, tooShort}
 use Rattle.stepdown.specs.Tables.{rowsOf}
 use Rattle.stepdown.specs.Runs.{tabulate}
 use Rattle.trial.specs.Exchange.{signedSum, byOffer, rowTotal, rowOf, trialRows, joined, tableOf, trialRun}
-use Rattle.trial.specs.Refusals.{badCounts, trialChecks, trialRefusal}
+use Rattle.trial.specs.Refusals.{trialChecks, trialRefusal}
 use Rattle.stepdown.specs.Answers.{acceptedRun, blankRun}
 use Rattle.stepdown.specs.Runs.{Outcome}
 use Rattle.trial.specs.Lent.{tableCallRefusal, tableBuffer, runCallRefusal, trialAnswer, runTable, runWork}
@@ -51,7 +51,7 @@ tableOf-entries t = refl
 
 module _ (t u : Trial) (s : SameUsed t u) where
   pub checks-same : trialChecks t ≡ trialChecks u
-  unfolding trialChecks badCounts
+  unfolding trialChecks
   checks-same = rw (s .codes-same, s .digits-same, s .differences-same, s .a-same, s .b-same, s .k-same, s .offers-same, s .pairs-same)
 
   pub refusal-same : trialRefusal t ≡ trialRefusal u

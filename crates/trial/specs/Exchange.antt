@@ -8,7 +8,7 @@
 --   joined rows         rows, one after the other
 --   tableOf t           the table as it is lent, row after row
 --   trialRun t          the full run of a trial: of its table, with row 0 observed
-use Prim.Native.Nat.{ℕ, zero, suc, _/_, _%_, _^_}
+use Prim.Native.Nat.{ℕ, _/_, _%_, _^_}
 use mathlib.Core.Bool.{Bool, true, false}
 use mathlib.Core.List.{List, [], _∷_, _++_, map}
 use lib.Dec.{eqb}

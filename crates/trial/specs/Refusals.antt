@@ -14,11 +14,12 @@ use mathlib.Core.List.{List, [], _∷_, _++_, map}
 use lib.ListN.{take, getD}
 use lib.Dec.{ltb, leb, eqb}
 use lib.IntN.{ℤ, natAbs}
-use Rattle.stepdown.specs.Refusals.{Checks, firstRefusal, outside, badLevel}
+use Rattle.stepdown.specs.Refusals.{Checks, firstRefusal, outside, badSizes, badLevel}
 use Rattle.trial.specs.declared.Trial.{Trial}
 
-unfoldable pub badCounts : ℕ → ℕ → ℕ → Bool
-badCounts k offers pairs = outside 1 9 pairs || (outside 1 16 offers || (outside 1 4 k || ltb offers k))
+-- a trial's pairs are bounded as the rows of a table are, its offers as the columns
+abbrev pub badCounts : ℕ → ℕ → ℕ → Bool
+badCounts k offers pairs = badSizes 9 16 pairs offers k
 
 unfoldable pub badDigits : ℕ → ℕ → Bool
 badDigits c d = outside 1 7 d || leb (10 ^ d) c
@@ -46,7 +47,7 @@ unfolding badDifference
 differenceChecks ds = map (λ d. (badDifference d, 7)) ds
 
 unfoldable pub trialChecks : Trial → Checks
-unfolding badCounts badLevel offerChecks differenceChecks
+unfolding badSizes badLevel offerChecks differenceChecks
 trialChecks t =
     (badCounts (t .k) (t .offers) (t .pairs), 4)
     ∷ (badLevel (t .a) (t .b), 3)

@@ -1,4 +1,4 @@
-// The conditions of refusals 3 to 7, in the words of specs/Refusals.
+// The conditions of refusals 4 to 7, in the words of specs/Refusals.
 ghost use mathlib.Core.Path.{_≡_};
 ghost use mathlib.Core.Bool.{cond};
 ghost use mathlib.Core.List.{[]};
@@ -24,16 +24,7 @@ pub fn first_of(holds: bool, number: u32, after: u32) -> u32
 pub fn bad_counts(k: usize, offers: usize, pairs: usize) -> bool
     ensures { λ r. ⌜ r ≡ badCounts k offers pairs ⌝ }
 {
-    if stepdown::outside(1, 9, pairs) {
-        return true;
-    }
-    if stepdown::outside(1, 16, offers) {
-        return true;
-    }
-    if stepdown::outside(1, 4, k) {
-        return true;
-    }
-    offers < k
+    stepdown::bad_sizes(9, 16, pairs, offers, k)
 }
 
 // The condition of 5.

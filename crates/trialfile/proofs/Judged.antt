@@ -1,138 +1,122 @@
 -- Laws for judging a file: each turn of a loop takes the first conditions off the list.
---   stop, pass                                   the first condition holds, or does not
 --   seen-hit, seen-turn, seen-none               looking back at earlier numbers
---   part-decides, part-passes                    a list that is judged by its first part
 --   differences-start .. -end, offers-start .. -end   the loops over differences and offers
 --   level-judged .. end-judged                   the tests of one place, in order
 --   body-offers, body-differences, body-end      the words after the shape
 --   shape-most                                   the counts of a shape that passes
 --   length-bad, level-decides, shape-decides, to-body   the whole file
-use Prim.Native.Nat.{ℕ, zero, suc, _+_, _-_, _*_, _/_, _%_, _^_, _≤_, _<_}
+use Prim.Native.Nat.{ℕ, suc, _+_, _-_, _*_, _/_, _%_, _≤_, _<_}
 use native.Mathlib.Omega.{arith}
 use native.Mathlib.Nat.{sub-zero, add-zero}
 use native.Mathlib.Numerals.{add-one}
 use mathlib.Core.Path.{_≡_, refl, sym, ap, ap₂, _∙_, subst}
 use mathlib.Core.Bool.{Bool, true, false, not, cond, _||_}
-use mathlib.Core.List.{List, [], _∷_, _++_}
-use lib.ListN.{length, getD, drop, length-drop}
+use mathlib.Core.List.{List, [], _∷_, _++_, map}
+use lib.ListN.{length, getD, drop, length-drop, List·getD-map}
 use lib.Seq.{getD-drop, drop-drop}
 use lib.Dec.{ltb, eqb}
 use lib.IntN.{ℤ}
 use mir.Syntax.{w32}
 use mir.Val.{toZ, ofZ}
-use borrow.Author.Tests.{eq-eqb, ne-eqb}
-use Rattle.order.proofs.Booleans.{iff-ltb}
+use Rattle.order.proofs.Booleans.{iff-ltb, holds, passes}
 use Rattle.order.specs.Counting.{all}
 use Rattle.stepdown.specs.Refusals.{Checks, firstRefusal, badLevel}
-use Rattle.stepdown.proofs.Accepted.{none-holds, or-none}
-use Rattle.trial.specs.Refusals.{badCounts, badDigits, has, badDifference}
-use Rattle.trial.proofs.Refusals.{judged, judged-last}
-use Rattle.trial.proofs.Accepted.{counted}
+use Rattle.stepdown.proofs.Accepted.{none-holds, or-none, sizes}
+use Rattle.stepdown.proofs.Refusals.{judged, judged-last, first-decides, first-passes}
+use Rattle.trial.specs.Refusals.{badCounts, badDigits, has, earlierOf, badDifference}
+use Rattle.trial.proofs.Conditions.{earlier-hit, earlier-turn, earlier-none}
 use Rattle.trialfile.specs.Words.{wordsOf, word, aOf, bOf, unusedOf, kOf, offersOf, pairsOf, digitsOf, codeOf, differenceOf, countOf}
 use Rattle.trialfile.specs.Files.{badLength, otherKind, levelPlace, shapePlace, offerPlace, offerPlaces, earlierCodes, differencePlace, differencePlaces, endPlace, bodyPlaces, placeChecks, fileChecks, fileRefusal}
-use Rattle.trialfile.proofs.Checks.{Numbered, orElse, nonzero-stays, first-append}
 use Rattle.trialfile.proofs.Places.{offers-numbered, differences-numbered}
 use Rattle.trialfile.proofs.Signed.{field-kept}
 use Rattle.trialfile.proofs.Words.{wordsOf-length}
 
--- ---- conditions
+-- ---- the word at a place, as the first of those that are left
 
-pub stop : (b : Bool) (n : ℕ) (cs : Checks) → b ≡ true → firstRefusal ((b, n) ∷ cs) ≡ n
-unfolding firstRefusal
-stop b n cs e = ap (λ (t : Bool). cond t n (firstRefusal cs)) e
+at-front : (ws : List ℕ) (k : ℕ) → word (drop k ws) 0 ≡ word ws k
+at-front ws k = getD-drop k ws 0 0 ∙ ap (word ws) (add-zero k)
 
-pub pass : (b : Bool) (n : ℕ) (cs : Checks) → b ≡ false → firstRefusal ((b, n) ∷ cs) ≡ firstRefusal cs
-unfolding firstRefusal
-pass b n cs e = ap (λ (t : Bool). cond t n (firstRefusal cs)) e
-
-pub none-left : firstRefusal [] ≡ 0
-unfolding firstRefusal
-none-left = refl
+past-front : (ws : List ℕ) (from i : ℕ) → drop 1 (drop (from + i) ws) ≡ drop (from + (i + 1)) ws
+past-front ws from i = let p : from + i + 1 ≡ from + (i + 1) = omega arith in drop-drop 1 (from + i) ws ∙ ap (λ (k : ℕ). drop k ws) p
 
 -- ---- earlier offers
 
-seen-more : (ws : List ℕ) (code i : ℕ) → 0 < i → has code (earlierCodes ws i) ≡ (eqb code (codeOf (word ws (i - 1 + 2))) || has code (earlierCodes ws (i - 1)))
-unfolding has earlierCodes
-seen-more ws code i h = let e : i ≡ suc (i - 1) = omega arith in ap (λ (n : ℕ). has code (earlierCodes ws n)) e
+code-at : (ws : List ℕ) (i : ℕ) → getD (map codeOf (drop 2 ws)) i 0 ≡ codeOf (word ws (2 + i))
+code-at ws i = List·getD-map codeOf (drop 2 ws) i 0 ∙ ap codeOf (getD-drop 2 ws i 0)
 
-module _ (ws : List ℕ) (code i w : ℕ) (h : 0 < i) (e : w ≡ word ws (i - 1 + 2)) where
-  pub seen-hit : code ≡ w % 16777216 → has code (earlierCodes ws i) ≡ true
-  seen-hit g = seen-more ws code i h ∙ ap (λ (b : Bool). b || has code (earlierCodes ws (i - 1))) (eq-eqb code (codeOf (word ws (i - 1 + 2))) (g ∙ ap codeOf e))
+module _ (ws : List ℕ) (code i w : ℕ) (h : 0 < i) (e : w ≡ word ws (2 + (i - 1))) where
+  code-is : codeOf w ≡ getD (map codeOf (drop 2 ws)) (i - 1) 0
+  code-is = ap codeOf e ∙ sym (code-at ws (i - 1))
 
-  pub seen-turn : (code ≡ w % 16777216 → ⊥) → has code (earlierCodes ws i) ≡ has code (earlierCodes ws (i - 1))
-  seen-turn g = seen-more ws code i h ∙ ap (λ (b : Bool). b || has code (earlierCodes ws (i - 1))) (ne-eqb code (codeOf (word ws (i - 1 + 2))) (λ q. g (q ∙ sym (ap codeOf e))))
+  pub seen-hit : code ≡ codeOf w → has code (earlierCodes ws i) ≡ true
+  unfolding earlierCodes
+  seen-hit g = earlier-hit (map codeOf (drop 2 ws)) code i h (g ∙ code-is)
+
+  pub seen-turn : (code ≡ codeOf w → ⊥) → has code (earlierCodes ws i) ≡ has code (earlierCodes ws (i - 1))
+  unfolding earlierCodes
+  seen-turn g = earlier-turn (map codeOf (drop 2 ws)) code i h (λ q. g (q ∙ sym code-is))
 
 pub seen-none : (ws : List ℕ) (code i : ℕ) → i ≤ 0 → has code (earlierCodes ws i) ≡ false
-unfolding has earlierCodes
-seen-none ws code i h = let e : i ≡ 0 = omega arith in ap (λ (n : ℕ). has code (earlierCodes ws n)) e
-
--- a list of conditions that is judged by its first part
-module _ (now rest whole : Checks) (split : whole ≡ now ++ rest) (numbered : Numbered now) (r : ℕ) (e : r ≡ firstRefusal now) where
-  pub part-decides : (r ≡ 0 → ⊥) → firstRefusal whole ≡ r
-  part-decides z = ap firstRefusal split ∙ first-append now rest numbered ∙ ap (λ (x : ℕ). orElse x (firstRefusal rest)) (sym e) ∙ nonzero-stays r (firstRefusal rest) z
-
-  pub part-passes : r ≡ 0 → firstRefusal whole ≡ firstRefusal rest
-  part-passes z = ap firstRefusal split ∙ first-append now rest numbered ∙ ap (λ (x : ℕ). orElse x (firstRefusal rest)) (sym e ∙ z)
+unfolding earlierCodes
+seen-none ws code i h = earlier-none (map codeOf (drop 2 ws)) code i h
 
 -- ---- differences
 
 module _ (ws : List ℕ) (from n i : ℕ) where
-  differences-split : i < n → differencePlaces (n - i) (drop (from + i) ws) ≡ differencePlace (word ws (from + i)) ++ differencePlaces (n - (i + 1)) (drop (from + (i + 1)) ws)
+  abbrev pub differencesFrom : Checks
+  differencesFrom = differencePlaces (n - i) (drop (from + i) ws)
+
+  differences-split : i < n → differencesFrom ≡ differencePlace (word ws (from + i)) ++ differencePlaces (n - (i + 1)) (drop (from + (i + 1)) ws)
   unfolding differencePlaces
-  differences-split h =
-      let m : n - i ≡ suc (n - (i + 1)) = omega arith in
-      let e : word (drop (from + i) ws) 0 ≡ word ws (from + i) = getD-drop (from + i) ws 0 0 ∙ ap (word ws) (add-zero (from + i)) in
-      let p : from + i + 1 ≡ from + (i + 1) = omega arith in
-      let d : drop 1 (drop (from + i) ws) ≡ drop (from + (i + 1)) ws = drop-drop 1 (from + i) ws ∙ ap (λ (k : ℕ). drop k ws) p in
-      rw (m, e, d)
+  differences-split h = let m : n - i ≡ suc (n - (i + 1)) = omega arith in rw (m, at-front ws (from + i), past-front ws from i)
 
   module _ (h : i < n) (w r : ℕ) (e : w ≡ word ws (from + i)) (q : r ≡ firstRefusal (differencePlace w)) where
-    pub difference-decides : (r ≡ 0 → ⊥) → firstRefusal (differencePlaces (n - i) (drop (from + i) ws)) ≡ r
-    unfolding all
-    difference-decides z = part-decides _ _ _ (differences-split h) tt r (q ∙ ap (λ (x : ℕ). firstRefusal (differencePlace x)) e) z
+    here : r ≡ firstRefusal (differencePlace (word ws (from + i)))
+    here = q ∙ ap (λ (x : ℕ). firstRefusal (differencePlace x)) e
 
-    pub difference-passes : r ≡ 0 → firstRefusal (differencePlaces (n - i) (drop (from + i) ws)) ≡ firstRefusal (differencePlaces (n - (i + 1)) (drop (from + (i + 1)) ws))
+    pub difference-decides : (r ≡ 0 → ⊥) → firstRefusal differencesFrom ≡ r
     unfolding all
-    difference-passes z = part-passes _ _ _ (differences-split h) tt r (q ∙ ap (λ (x : ℕ). firstRefusal (differencePlace x)) e) z
+    difference-decides z = ap firstRefusal (differences-split h) ∙ first-decides _ _ tt r here z
 
-  pub differences-end : n ≤ i → firstRefusal (differencePlaces (n - i) (drop (from + i) ws)) ≡ 0
+    pub difference-passes : r ≡ 0 → firstRefusal differencesFrom ≡ firstRefusal (differencePlaces (n - (i + 1)) (drop (from + (i + 1)) ws))
+    unfolding all
+    difference-passes z = ap firstRefusal (differences-split h) ∙ first-passes _ _ tt r here z
+
+  pub differences-end : n ≤ i → firstRefusal differencesFrom ≡ 0
   unfolding differencePlaces firstRefusal
   differences-end h = let m : n - i ≡ 0 = omega arith in rw m
 
-pub differences-start : (ws : List ℕ) (from n : ℕ) → firstRefusal (differencePlaces n (drop from ws)) ≡ firstRefusal (differencePlaces (n - 0) (drop (from + 0) ws))
+pub differences-start : (ws : List ℕ) (from n : ℕ) → firstRefusal (differencePlaces n (drop from ws)) ≡ firstRefusal (differencesFrom ws from n 0)
 differences-start ws from n = rw (sub-zero, add-zero)
 
 -- ---- offers
 
 module _ (ws : List ℕ) (n i : ℕ) where
   abbrev pub offersFrom : Checks
-  offersFrom = offerPlaces (earlierCodes ws i) (n - i) (drop (i + 2) ws)
+  offersFrom = offerPlaces (earlierCodes ws i) (n - i) (drop (2 + i) ws)
 
-  offers-split : i < n → offersFrom ≡ offerPlace (earlierCodes ws i) (word ws (i + 2)) ++ offerPlaces (earlierCodes ws (i + 1)) (n - (i + 1)) (drop (i + 1 + 2) ws)
-  unfolding offerPlaces earlierCodes
+  offers-split : i < n → offersFrom ≡ offerPlace (earlierCodes ws i) (word ws (2 + i)) ++ offerPlaces (earlierCodes ws (i + 1)) (n - (i + 1)) (drop (2 + (i + 1)) ws)
+  unfolding offerPlaces earlierCodes earlierOf
   offers-split h =
       let m : n - i ≡ suc (n - (i + 1)) = omega arith in
-      let e : word (drop (i + 2) ws) 0 ≡ word ws (i + 2) = getD-drop (i + 2) ws 0 0 ∙ ap (word ws) (add-zero (i + 2)) in
-      let p : i + 2 + 1 ≡ i + 1 + 2 = omega arith in
-      let d : drop 1 (drop (i + 2) ws) ≡ drop (i + 1 + 2) ws = drop-drop 1 (i + 2) ws ∙ ap (λ (k : ℕ). drop k ws) p in
-      let s : earlierCodes ws (i + 1) ≡ codeOf (word ws (i + 2)) ∷ earlierCodes ws i = ap (earlierCodes ws) (add-one i) in
-      rw (m, e, d, s)
+      let s : earlierCodes ws (i + 1) ≡ codeOf (word ws (2 + i)) ∷ earlierCodes ws i = ap (earlierCodes ws) (add-one i) ∙ ap (λ (c : ℕ). c ∷ earlierCodes ws i) (code-at ws i) in
+      rw (m, at-front ws (2 + i), past-front ws 2 i, s)
 
-  module _ (h : i < n) (r : ℕ) (q : r ≡ firstRefusal (offerPlace (earlierCodes ws i) (word ws (i + 2)))) where
+  module _ (h : i < n) (r : ℕ) (q : r ≡ firstRefusal (offerPlace (earlierCodes ws i) (word ws (2 + i)))) where
     pub offer-decides : (r ≡ 0 → ⊥) → firstRefusal offersFrom ≡ r
     unfolding all
-    offer-decides z = part-decides _ _ _ (offers-split h) tt r q z
+    offer-decides z = ap firstRefusal (offers-split h) ∙ first-decides _ _ tt r q z
 
-    pub offer-passes : r ≡ 0 → firstRefusal offersFrom ≡ firstRefusal (offerPlaces (earlierCodes ws (i + 1)) (n - (i + 1)) (drop (i + 1 + 2) ws))
+    pub offer-passes : r ≡ 0 → firstRefusal offersFrom ≡ firstRefusal (offerPlaces (earlierCodes ws (i + 1)) (n - (i + 1)) (drop (2 + (i + 1)) ws))
     unfolding all
-    offer-passes z = part-passes _ _ _ (offers-split h) tt r q z
+    offer-passes z = ap firstRefusal (offers-split h) ∙ first-passes _ _ tt r q z
 
   pub offers-end : n ≤ i → firstRefusal offersFrom ≡ 0
   unfolding offerPlaces firstRefusal
   offers-end h = let m : n - i ≡ 0 = omega arith in rw m
 
 pub offers-start : (ws : List ℕ) (n : ℕ) → firstRefusal (offerPlaces [] n (drop 2 ws)) ≡ firstRefusal (offersFrom ws n 0)
-unfolding earlierCodes
+unfolding earlierCodes earlierOf
 offers-start ws n = rw sub-zero
 
 -- ---- one place: the tests of the code, in order
@@ -155,8 +139,8 @@ shape-judged x w r u v b e q f g h =
     judged (otherKind 2 w) _ 2 r refl _ v (judged-last (badCounts (kOf w) (offersOf w) (pairsOf w) || not (eqb (unusedOf w) 0)) _ 4 v refl (g ∙ ap₂ (λ (y : Bool) (m : ℕ). cond y 4 m) q f ∙ either (badCounts (kOf w) (offersOf w) (pairsOf w)) (not (eqb (unusedOf w) 0)) 4)) h
     ∙ ap (λ (y : ℕ). firstRefusal (shapePlace y)) e
 
-pub offer-judged : (ws : List ℕ) (i w r u v : ℕ) (b s : Bool) → w ≡ word ws (i + 2) → b ≡ badDigits (codeOf w) (digitsOf w) → s ≡ has (codeOf w) (earlierCodes ws i)
-    → u ≡ cond s 6 0 → v ≡ cond b 5 u → r ≡ cond (otherKind 3 w) 2 v → r ≡ firstRefusal (offerPlace (earlierCodes ws i) (word ws (i + 2)))
+pub offer-judged : (ws : List ℕ) (i w r u v : ℕ) (b s : Bool) → w ≡ word ws (2 + i) → b ≡ badDigits (codeOf w) (digitsOf w) → s ≡ has (codeOf w) (earlierCodes ws i)
+    → u ≡ cond s 6 0 → v ≡ cond b 5 u → r ≡ cond (otherKind 3 w) 2 v → r ≡ firstRefusal (offerPlace (earlierCodes ws i) (word ws (2 + i)))
 offer-judged ws i w r u v b s e q p f g h =
     judged (otherKind 3 w) _ 2 r refl _ v (judged b _ 5 v q _ u (judged-last s _ 6 u p f) g) h
     ∙ ap (λ (x : ℕ). firstRefusal (offerPlace (earlierCodes ws i) x)) e
@@ -166,7 +150,7 @@ pub end-judged : (bs : List ℕ) (n w r u v : ℕ) → w ≡ word (wordsOf bs) n
 unfolding firstRefusal
 end-judged bs n w r u v e f g h =
     let past = drop n (wordsOf bs) in
-    let at : w ≡ word (drop n (wordsOf bs)) 0 = e ∙ sym (getD-drop n (wordsOf bs) 0 0 ∙ ap (word (wordsOf bs)) (add-zero n)) in
+    let at : w ≡ word (drop n (wordsOf bs)) 0 = e ∙ sym (at-front (wordsOf bs) n) in
     let more : ltb (n + 1) (length bs / 4) ≡ ltb 1 (length (drop n (wordsOf bs))) =
     iff-ltb (n + 1) (length bs / 4) 1 (length (drop n (wordsOf bs))) (λ x. omega (arith, wordsOf-length bs, length-drop n (wordsOf bs)), λ x. omega (arith, wordsOf-length bs, length-drop n (wordsOf bs))) in
     h ∙ ap (cond (otherKind 15 w) 2) (g ∙ ap (cond (not (eqb (countOf w) n)) 8) (f ∙ ap (λ (y : Bool). cond y 8 0) more) ∙ either (not (eqb (countOf w) n)) (ltb 1 (length (drop n (wordsOf bs)))) 8)
@@ -175,38 +159,35 @@ end-judged bs n w r u v e f g h =
 -- ---- the words after the shape
 
 module _ (ws : List ℕ) (n p : ℕ) where
-  past-offers : drop n (drop 2 ws) ≡ drop (2 + n) ws
-  past-offers = drop-drop n 2 ws
+  abbrev offersPart : Checks
+  offersPart = offerPlaces [] n (drop 2 ws)
 
-  past-differences : drop (n * p) (drop n (drop 2 ws)) ≡ drop (2 + n + n * p) ws
-  past-differences = ap (drop (n * p)) past-offers ∙ drop-drop (n * p) (2 + n) ws
+  abbrev differencesPart : ℕ → Checks
+  differencesPart m = differencePlaces m (drop (2 + n) ws)
 
-  body-splits : firstRefusal (bodyPlaces n p ws)
-      ≡ orElse (firstRefusal (offerPlaces [] n (drop 2 ws))) (orElse (firstRefusal (differencePlaces (n * p) (drop (2 + n) ws))) (firstRefusal (endPlace (2 + n + n * p) (drop (2 + n + n * p) ws))))
-  body-splits =
-      first-append (offerPlaces [] n (drop 2 ws)) (differencePlaces (n * p) (drop n (drop 2 ws)) ++ endPlace (2 + n + n * p) (drop (n * p) (drop n (drop 2 ws)))) (offers-numbered [] n (drop 2 ws))
-      ∙ ap (orElse (firstRefusal (offerPlaces [] n (drop 2 ws))))
-      (first-append (differencePlaces (n * p) (drop n (drop 2 ws))) (endPlace (2 + n + n * p) (drop (n * p) (drop n (drop 2 ws)))) (differences-numbered (n * p) (drop n (drop 2 ws)))
-      ∙ ap₂ orElse (ap (λ (l : List ℕ). firstRefusal (differencePlaces (n * p) l)) past-offers) (ap (λ (l : List ℕ). firstRefusal (endPlace (2 + n + n * p) l)) past-differences))
+  abbrev endPart : ℕ → Checks
+  endPart m = endPlace (2 + n + m) (drop (2 + n + m) ws)
 
-  module _ (o : ℕ) (e : o ≡ firstRefusal (offerPlaces [] n (drop 2 ws))) where
+  body-is : bodyPlaces n p ws ≡ offersPart ++ (differencesPart (n * p) ++ endPart (n * p))
+  body-is =
+      ap₂ (λ (ds es : List ℕ). offersPart ++ (differencePlaces (n * p) ds ++ endPlace (2 + n + n * p) es)) (drop-drop n 2 ws)
+      (ap (drop (n * p)) (drop-drop n 2 ws) ∙ drop-drop (n * p) (2 + n) ws)
+
+  module _ (o : ℕ) (e : o ≡ firstRefusal offersPart) where
     pub body-offers : (o ≡ 0 → ⊥) → firstRefusal (bodyPlaces n p ws) ≡ o
-    body-offers f =
-        let after = orElse (firstRefusal (differencePlaces (n * p) (drop (2 + n) ws))) (firstRefusal (endPlace (2 + n + n * p) (drop (2 + n + n * p) ws))) in
-        body-splits ∙ ap (λ (x : ℕ). orElse x after) (sym e) ∙ nonzero-stays o after f
+    body-offers f = ap firstRefusal body-is ∙ first-decides offersPart (differencesPart (n * p) ++ endPart (n * p)) (offers-numbered [] n (drop 2 ws)) o e f
 
-    module _ (z : o ≡ 0) (m d : ℕ) (q : m ≡ n * p) (g : d ≡ firstRefusal (differencePlaces m (drop (2 + n) ws))) where
-      rest-is : firstRefusal (bodyPlaces n p ws) ≡ orElse d (firstRefusal (endPlace (2 + n + m) (drop (2 + n + m) ws)))
-      rest-is =
-          body-splits ∙ ap₂ orElse (sym e ∙ z)
-          (subst (λ (x : ℕ). orElse (firstRefusal (differencePlaces x (drop (2 + n) ws))) (firstRefusal (endPlace (2 + n + x) (drop (2 + n + x) ws))) ≡ orElse d (firstRefusal (endPlace (2 + n + m) (drop (2 + n + m) ws)))) q
-          (ap (λ (x : ℕ). orElse x (firstRefusal (endPlace (2 + n + m) (drop (2 + n + m) ws)))) (sym g)))
+    module _ (z : o ≡ 0) (m d : ℕ) (q : m ≡ n * p) (g : d ≡ firstRefusal (differencesPart m)) where
+      past-offers : firstRefusal (bodyPlaces n p ws) ≡ firstRefusal (differencesPart m ++ endPart m)
+      past-offers =
+          ap firstRefusal body-is ∙ first-passes offersPart (differencesPart (n * p) ++ endPart (n * p)) (offers-numbered [] n (drop 2 ws)) o e z
+          ∙ ap (λ (x : ℕ). firstRefusal (differencesPart x ++ endPart x)) (sym q)
 
       pub body-differences : (d ≡ 0 → ⊥) → firstRefusal (bodyPlaces n p ws) ≡ d
-      body-differences f = rest-is ∙ nonzero-stays d _ f
+      body-differences f = past-offers ∙ first-decides (differencesPart m) (endPart m) (differences-numbered m (drop (2 + n) ws)) d g f
 
-      pub body-end : d ≡ 0 → (r : ℕ) → r ≡ firstRefusal (endPlace (2 + n + m) (drop (2 + n + m) ws)) → firstRefusal (bodyPlaces n p ws) ≡ r
-      body-end y r h = rest-is ∙ ap₂ orElse y (sym h)
+      pub body-end : d ≡ 0 → (r : ℕ) → r ≡ firstRefusal (endPart m) → firstRefusal (bodyPlaces n p ws) ≡ r
+      body-end y r h = past-offers ∙ first-passes (differencesPart m) (endPart m) (differences-numbered m (drop (2 + n) ws)) d g y ∙ sym h
 
 -- ---- the whole file
 
@@ -216,7 +197,7 @@ unfolding all
 shape-most x w s e f z =
     let h = none-holds (shapePlace x) tt (sym f ∙ z) in
     let c = or-none (badCounts (kOf x) (offersOf x) (pairsOf x)) (not (eqb (unusedOf x) 0)) (h .1 .0) in
-    subst (λ (y : ℕ). (y / 256 % 256 ≤ 16) × (y % 256 ≤ 9)) (sym e) (let f = counted (kOf x) (offersOf x) (pairsOf x) (c .0) in (f .offers-most, f .pairs-most))
+    subst (λ (y : ℕ). (y / 256 % 256 ≤ 16) × (y % 256 ≤ 9)) (sym e) (let f = sizes 9 16 (pairsOf x) (offersOf x) (kOf x) (c .0) in (f .columns-most, f .rows-most))
 
 module _ (bs : List ℕ) (b : Bool) (r : b ≡ badLength bs) where
   abbrev ws : List ℕ
@@ -226,27 +207,27 @@ module _ (bs : List ℕ) (b : Bool) (r : b ≡ badLength bs) where
   body = bodyPlaces (offersOf (word ws 1)) (pairsOf (word ws 1)) ws
 
   pub length-bad : b ≡ true → fileRefusal bs ≡ 1
-  unfolding fileRefusal fileChecks
-  length-bad h = stop (badLength bs) 1 (placeChecks ws) (sym r ∙ h)
+  unfolding fileRefusal fileChecks firstRefusal
+  length-bad h = sym (holds (badLength bs) 1 (firstRefusal (placeChecks ws)) (sym r ∙ h))
 
   module _ (h : b ≡ false) (l : ℕ) (e : l ≡ firstRefusal (levelPlace (word (wordsOf bs) 0))) where
     to-words : fileRefusal bs ≡ firstRefusal (levelPlace (word ws 0) ++ (shapePlace (word ws 1) ++ body))
-    unfolding fileRefusal fileChecks placeChecks
-    to-words = pass (badLength bs) 1 (levelPlace (word ws 0) ++ (shapePlace (word ws 1) ++ body)) (sym r ∙ h)
+    unfolding fileRefusal fileChecks placeChecks firstRefusal
+    to-words = sym (passes (badLength bs) 1 (firstRefusal (placeChecks ws)) _ (sym r ∙ h) refl)
 
     pub level-decides : (l ≡ 0 → ⊥) → fileRefusal bs ≡ l
     unfolding all
-    level-decides z = to-words ∙ part-decides (levelPlace (word ws 0)) (shapePlace (word ws 1) ++ body) _ refl tt l e z
+    level-decides z = to-words ∙ first-decides (levelPlace (word ws 0)) (shapePlace (word ws 1) ++ body) tt l e z
 
     module _ (z : l ≡ 0) (s : ℕ) (f : s ≡ firstRefusal (shapePlace (word (wordsOf bs) 1))) where
       to-shape : fileRefusal bs ≡ firstRefusal (shapePlace (word ws 1) ++ body)
       unfolding all
-      to-shape = to-words ∙ part-passes (levelPlace (word ws 0)) (shapePlace (word ws 1) ++ body) _ refl tt l e z
+      to-shape = to-words ∙ first-passes (levelPlace (word ws 0)) (shapePlace (word ws 1) ++ body) tt l e z
 
       pub shape-decides : (s ≡ 0 → ⊥) → fileRefusal bs ≡ s
       unfolding all
-      shape-decides y = to-shape ∙ part-decides (shapePlace (word ws 1)) body _ refl tt s f y
+      shape-decides y = to-shape ∙ first-decides (shapePlace (word ws 1)) body tt s f y
 
       pub to-body : s ≡ 0 → (w : ℕ) → w ≡ word (wordsOf bs) 1 → fileRefusal bs ≡ firstRefusal (bodyPlaces (w / 256 % 256) (w % 256) (wordsOf bs))
       unfolding all
-      to-body y w g = to-shape ∙ part-passes (shapePlace (word ws 1)) body _ refl tt s f y ∙ ap (λ (x : ℕ). firstRefusal (bodyPlaces (offersOf x) (pairsOf x) ws)) (sym g)
+      to-body y w g = to-shape ∙ first-passes (shapePlace (word ws 1)) body tt s f y ∙ ap (λ (x : ℕ). firstRefusal (bodyPlaces (offersOf x) (pairsOf x) ws)) (sym g)

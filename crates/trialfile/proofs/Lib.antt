@@ -1,6 +1,5 @@
 pub mod Words
 pub mod Fields
-pub mod Checks
 pub mod Places
 pub mod Parts
 pub mod Written

@@ -1,47 +1,24 @@
 -- What an accepted trial's parts are known to be.
 --   product-most       offers × pairs is at most 144
---   trial-numbered     every condition of a record has a number above 0
 --   Parts, parts       what each condition of an accepted trial says, and how many places it uses
 use Prim.Native.Nat.{ℕ, _*_, _≤_}
 use native.Mathlib.Omega.{arith}
 use native.Mathlib.Nat.{mul-le-mul}
 use mathlib.Core.Path.{_≡_}
 use mathlib.Core.Bool.{false}
-use mathlib.Core.List.{List, [], _∷_}
+use mathlib.Core.List.{[]}
 use lib.ListN.{length, take}
 use lib.Seq.{length-take-le}
-use lib.Dec.{ltb}
-use lib.IntN.{ℤ}
-use Rattle.order.specs.Counting.{all}
-use Rattle.order.proofs.Counts.{all-append}
 use Rattle.stepdown.specs.Refusals.{badLevel}
 use Rattle.stepdown.proofs.Accepted.{NoneHolds, none-holds}
+use Rattle.stepdown.proofs.Refusals.{none-append}
 use Rattle.trial.specs.Record.{Typed}
 use Rattle.trial.specs.Refusals.{badCounts, offerChecks, differenceChecks, trialChecks, trialRefusal}
 use Rattle.trial.specs.declared.Trial.{Trial}
-use Rattle.trial.proofs.Accepted.{Accepted, accepted}
-use Rattle.trialfile.proofs.Checks.{Numbered, none-append}
+use Rattle.trial.proofs.Accepted.{Accepted, accepted, trialChecks-numbered}
 
 pub product-most : (n p : ℕ) → n ≤ 16 → p ≤ 9 → n * p ≤ 144
 product-most n p h k = mul-le-mul h k
-
--- every number of a record's conditions is above 0
-pub codes-numbered : (earlier cs ds : List ℕ) → Numbered (offerChecks earlier cs ds)
-unfolding offerChecks all
-codes-numbered earlier [] ds = tt
-codes-numbered earlier (c ∷ cs) [] = tt
-codes-numbered earlier (c ∷ cs) (d ∷ ds) = codes-numbered (c ∷ earlier) cs ds
-
-cents-numbered : (ds : List ℤ) → Numbered (differenceChecks ds)
-unfolding differenceChecks all
-cents-numbered [] = tt
-cents-numbered (d ∷ ds) = cents-numbered ds
-
-pub trial-numbered : (t : Trial) → Numbered (trialChecks t)
-unfolding trialChecks all
-trial-numbered t =
-    all-append (λ c. ltb 0 (c .1)) (offerChecks [] (take (t .offers) (t .codes)) (take (t .offers) (t .digits))) (differenceChecks (take (t .offers * t .pairs) (t .differences)))
-    (codes-numbered [] (take (t .offers) (t .codes)) (take (t .offers) (t .digits))) (cents-numbered (take (t .offers * t .pairs) (t .differences)))
 
 -- what is known of an accepted trial's parts
 pub record Parts (t : Trial) : Type 0 where
@@ -57,7 +34,7 @@ pub record Parts (t : Trial) : Type 0 where
 pub parts : (t : Trial) → Typed t → trialRefusal t ≡ 0 → Parts t
 unfolding trialRefusal trialChecks
 parts t ty h =
-    let f = none-holds (trialChecks t) (trial-numbered t) h in
+    let f = none-holds (trialChecks t) (trialChecks-numbered t) h in
     let g = none-append (offerChecks [] (take (t .offers) (t .codes)) (take (t .offers) (t .digits))) (differenceChecks (take (t .offers * t .pairs) (t .differences))) (f .1 .1) in
     let acc = accepted t h in
     record {

@@ -23,6 +23,7 @@ use Rattle.order.proofs.Booleans.{and-right}
 use Rattle.order.proofs.Counts.{all-append, all-le}
 use Rattle.stepdown.specs.Refusals.{badLevel}
 use Rattle.stepdown.proofs.Accepted.{NoneHolds, none-holds, or-none}
+use Rattle.stepdown.proofs.Refusals.{Numbered, first-most, none-first, none-append, none-join}
 use Rattle.trial.specs.Record.{Typed}
 use Rattle.trial.specs.Refusals.{badCounts, offerChecks, differenceChecks, trialChecks, trialRefusal}
 use Rattle.trial.proofs.Accepted.{accepted}
@@ -30,7 +31,6 @@ use Rattle.trialfile.specs.Words.{wordsOf, word, kindOf, aOf, bOf, unuse
 use Rattle.trialfile.specs.Files.{trialOf, wordsBefore, longest, badLength, offerPlaces, differencePlaces, endPlace, placeChecks, fileChecks, fileRefusal}
 use Rattle.trialfile.specs.Writings.{fileWords}
 use Rattle.trialfile.proofs.Fields.{level-again, shape-again, end-again}
-use Rattle.trialfile.proofs.Checks.{Numbered, first-most, none-first, none-append, none-join}
 use Rattle.trialfile.proofs.Parts.{product-most}
 use Rattle.trialfile.proofs.Places.{right-kind, fileNumber, offers-within, differences-within, within-numbered, offers-accepted, offers-again, differences-accepted, differences-again}
 

@@ -8,6 +8,7 @@
 --   in-range, differences-pass .. -again         the same for differences
 use Prim.Native.Nat.{ℕ, zero, suc, _^_, _≤_, _<_}
 use native.Mathlib.Omega.{arith}
+use native.Mathlib.Nat.{pow-le-pow-right, zero-lt-suc}
 use mathlib.Core.Path.{_≡_, refl, sym, ap, ap₂, _∙_, subst}
 use mathlib.Core.Bool.{Bool, false, not, _&&_}
 use mathlib.Core.List.{List, [], _∷_, _++_, map, zipWith}
@@ -20,10 +21,10 @@ use Rattle.order.proofs.Booleans.{and-left}
 use Rattle.order.proofs.Counts.{all-le}
 use Rattle.stepdown.specs.Refusals.{Checks, outside}
 use Rattle.stepdown.proofs.Accepted.{NoneHolds, or-none, inside}
+use Rattle.stepdown.proofs.Refusals.{Numbered}
 use Rattle.trial.specs.Refusals.{badDigits, has, badDifference, offerChecks, differenceChecks}
 use Rattle.trialfile.specs.Words.{word, kindOf, digitsOf, codeOf, differenceOf, offerWord, differenceWord}
 use Rattle.trialfile.specs.Files.{otherKind, offerPlaces, differencePlaces}
-use Rattle.trialfile.proofs.Checks.{Numbered}
 use Rattle.trialfile.proofs.Fields.{offer-kind, offer-digits, offer-code, offer-again, difference-kind, difference-back, difference-again}
 
 pub right-kind : (kind w : ℕ) → otherKind kind w ≡ false → kindOf w ≡ kind
@@ -59,18 +60,6 @@ differences-numbered n ws = within-numbered (differencePlaces n ws) (differences
 
 -- ---- offers
 
--- ten to a power of at most 7 is at most 10,000,000
-power-most : (d : ℕ) → d ≤ 7 → 10 ^ d ≤ 10000000
-power-most zero h = omega arith
-power-most (suc zero) h = omega arith
-power-most (suc (suc zero)) h = omega arith
-power-most (suc (suc (suc zero))) h = omega arith
-power-most (suc (suc (suc (suc zero)))) h = omega arith
-power-most (suc (suc (suc (suc (suc zero))))) h = omega arith
-power-most (suc (suc (suc (suc (suc (suc zero)))))) h = omega arith
-power-most (suc (suc (suc (suc (suc (suc (suc zero))))))) h = omega arith
-power-most (suc (suc (suc (suc (suc (suc (suc (suc d)))))))) h = absurd (omega arith)
-
 pub record Printed (c d : ℕ) : Type 0 where
   pub code-most : c < 10000000
   pub digits-most : d ≤ 7
@@ -80,7 +69,8 @@ unfolding badDigits
 printed c d h =
     let f = or-none (outside 1 7 d) (leb (10 ^ d) c) h in
     let most : d ≤ 7 = inside 1 7 d (f .0) .1 in
-    record { code-most = omega (arith, leb-false (10 ^ d) c (f .1), power-most d most); digits-most = most }
+    let ten : 10 ^ d ≤ 10 ^ 7 = pow-le-pow-right (zero-lt-suc 9) most in
+    record { code-most = omega (arith, leb-false (10 ^ d) c (f .1)); digits-most = most }
 
 module _ (c d : ℕ) (p : Printed c d) where
   small : c < 16777216

@@ -1,6 +1,6 @@
 -- Laws of a signed 28-bit field as an i32.
 --   field-low, field-high, field-kept    from the field to the i32
---   moved-fits, moved-is, kept-is        from the i32 to the field
+--   moved-fits, moved-is, kept-is, field-is   from the i32 to the field
 use Prim.Native.Nat.{ℕ, suc, _+_, _-_, _≤_, _<_, _^_}
 use native.Mathlib.Omega.{arith}
 use mathlib.Core.Path.{_≡_, refl, sym, ap, _∙_, subst}
@@ -12,7 +12,7 @@ use borrow.Author.Tests.{lt-ltb, le-ltb, ltb-true}
 use mir.Syntax.{w32}
 use mir.Val.{Fits, SFits, toZ, ofZ}
 use mir.ValLaws.{toZ-ofZ}
-use Rattle.trialfile.specs.Words.{signed, bitsOf, differenceWord}
+use Rattle.trialfile.specs.Words.{signed, bitsOf}
 use Rattle.trialfile.proofs.Fields.{bits-small}
 
 -- ---- from the field to the i32
@@ -81,8 +81,5 @@ module _ (d : ℤ) (h : natAbs d ≤ 134217727) where
     pub field-casts : T (nonNeg z) × Fits w32 (natAbs z)
     field-casts = rw e (tt, record { fits = omega (arith, bits-small d h) })
 
-    pub word-fits : Fits w32 (1073741824 + natAbs z)
-    word-fits = rw e (record { fits = omega (arith, bits-small d h) })
-
-    pub word-of-field : 1073741824 + natAbs z ≡ differenceWord d
-    word-of-field = rw e
+    pub field-is : (natAbs z ≡ bitsOf d) × (natAbs z < 268435456)
+    field-is = rw e (refl, bits-small d h)

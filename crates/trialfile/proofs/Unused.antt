@@ -14,13 +14,12 @@ use Rattle.trial.specs.Used.{SameUsed}
 use Rattle.trial.specs.declared.Trial.{Trial}
 use Rattle.trial.proofs.Unused.{checks-same}
 use Rattle.trialfile.specs.Words.{bytesOf}
-use Rattle.trialfile.specs.Files.{wordsBefore}
 use Rattle.trialfile.specs.Writings.{offerWords, differenceWords, fileWords, fileOf, fileLength, writeRefusal, writingOf, afterWriting}
 use Rattle.trialfile.specs.declared.Writing.{Writing}
 
 module _ (t u : Trial) (s : SameUsed t u) where
   words-same : fileWords t ≡ fileWords u
-  unfolding fileWords offerWords differenceWords wordsBefore
+  unfolding fileWords offerWords differenceWords
   words-same = rw (s .codes-same, s .digits-same, s .differences-same, s .a-same, s .b-same, s .k-same, s .offers-same, s .pairs-same)
 
   pub file-same : fileOf t ≡ fileOf u
@@ -28,7 +27,6 @@ module _ (t u : Trial) (s : SameUsed t u) where
   file-same = ap bytesOf words-same
 
   length-same : fileLength t ≡ fileLength u
-  unfolding wordsBefore
   length-same = rw (s .offers-same, s .pairs-same)
 
   refusal-same : (places : ℕ) → writeRefusal t places ≡ writeRefusal u places

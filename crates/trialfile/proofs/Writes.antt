@@ -9,25 +9,26 @@ use Prim.Native.Nat.{ℕ, zero, suc, _+_, _-_, _*_, _/_, _%_, _≤_, _<_}
 use native.Mathlib.Omega.{arith}
 use native.Mathlib.Numerals.{add-one}
 use mathlib.Core.Path.{_≡_, refl, sym, ap, ap₂, _∙_}
-use mathlib.Core.Bool.{Bool, false, cond}
+use mathlib.Core.Bool.{Bool, cond}
 use mathlib.Core.List.{List, [], _∷_, _++_, map, zipWith, append-nil}
 use lib.ListN.{length, getD, set, take, drop, length-append, length-drop, List·getD-append}
 use lib.Seq.{sets, sets-eq, length-sets, take-suc, take-all, take-append-seam, drop-drop, drop-append-add, getD-append-add, getD-take, length-take-le}
-use lib.Dec.{eqb}
+use lib.Dec.{ltb}
 use lib.IntN.{ℤ, pos, natAbs}
-use borrow.Author.Tests.{lt-ltb, le-ltb, ne-eqb}
-use Rattle.stepdown.specs.Refusals.{firstRefusal, tooShort}
+use borrow.Author.Tests.{lt-ltb, le-ltb}
+use Rattle.stepdown.specs.Refusals.{Checks, firstRefusal, tooShort}
 use Rattle.stepdown.specs.Buffers.{written}
 use Rattle.stepdown.proofs.Accepted.{NoneHolds}
+use Rattle.stepdown.proofs.Refusals.{first-decides, first-passes, given-refused, given-done}
 use Rattle.trial.specs.Record.{Typed}
 use Rattle.trial.specs.Refusals.{offerChecks, differenceChecks, trialChecks, trialRefusal}
 use Rattle.trial.specs.declared.Trial.{Trial}
+use Rattle.trial.proofs.Accepted.{trialChecks-numbered}
 use Rattle.trialfile.specs.Words.{wordBytes, bytesOf, word, levelWord, shapeWord, offerWord, differenceWord, endWord}
 use Rattle.trialfile.specs.Files.{wordsBefore}
 use Rattle.trialfile.specs.Writings.{offerWords, differenceWords, fileWords, fileOf, fileLength, writeRefusal, writingOf, afterWriting}
 use Rattle.trialfile.proofs.Words.{bytesOf-length, bytesOf-append}
-use Rattle.trialfile.proofs.Checks.{orElse, nonzero-stays, first-append}
-use Rattle.trialfile.proofs.Parts.{trial-numbered, parts}
+use Rattle.trialfile.proofs.Parts.{parts}
 use Rattle.trialfile.proofs.Places.{Printed, printed, in-range}
 use Rattle.trialfile.proofs.Written.{offerWords-used, differenceWords-used}
 
@@ -176,31 +177,33 @@ store-end ws buf i out h k g = g ∙ ap (λ (l : List ℕ). written (bytesOf l) 
 -- ---- the answer
 
 module _ (t : Trial) (buf : List ℕ) where
-  first-of-two : writeRefusal t (length buf) ≡ orElse (trialRefusal t) (firstRefusal (tooShort (length buf) (fileLength t)))
-  unfolding writeRefusal trialRefusal
-  first-of-two = first-append (trialChecks t) (tooShort (length buf) (fileLength t)) (trial-numbered t)
+  abbrev short : Checks
+  short = tooShort (length buf) (fileLength t)
 
-  turned-away : (n : ℕ) → writeRefusal t (length buf) ≡ n → (n ≡ 0 → ⊥) → (record { refusal = n; length = 0 } ≡ writingOf t (length buf)) × (buf ≡ afterWriting t buf)
+  turned-away : (n : ℕ) → n ≡ writeRefusal t (length buf) → (n ≡ 0 → ⊥) → (record { refusal = n; length = 0 } ≡ writingOf t (length buf)) × (buf ≡ afterWriting t buf)
   unfolding writingOf afterWriting
-  turned-away n e z =
-      let f : eqb (writeRefusal t (length buf)) 0 ≡ false = ne-eqb (writeRefusal t (length buf)) 0 (λ q. z (sym e ∙ q)) in
-      (sym (ap₂ (λ (m : ℕ) (b : Bool). record { refusal = m; length = cond b (fileLength t) 0 }) e f), sym (ap (λ (b : Bool). cond b (written (fileOf t) buf) buf) f))
+  turned-away n e z = (
+    ap₂ (λ (m k : ℕ). record { refusal = m; length = k }) e (given-refused n _ e (fileLength t) (λ _. 0) z),
+    given-refused n _ e (written (fileOf t) buf) (λ _. buf) z,
+  )
 
-  pub writing-refused : (n : ℕ) → n ≡ trialRefusal t → (n ≡ 0 → ⊥) → (record { refusal = n; length = 0 } ≡ writingOf t (length buf)) × (buf ≡ afterWriting t buf)
-  writing-refused n e z =
-      let after = firstRefusal (tooShort (length buf) (fileLength t)) in
-      turned-away n (first-of-two ∙ ap (λ (m : ℕ). orElse m after) (sym e) ∙ nonzero-stays n after z) z
+  module _ (r : ℕ) (e : r ≡ trialRefusal t) where
+    pub writing-refused : (r ≡ 0 → ⊥) → (record { refusal = r; length = 0 } ≡ writingOf t (length buf)) × (buf ≡ afterWriting t buf)
+    unfolding writeRefusal trialRefusal
+    writing-refused z = turned-away r (sym (first-decides (trialChecks t) short (trialChecks-numbered t) r e z)) z
 
-  module _ (r n : ℕ) (e : r ≡ trialRefusal t) (z : r ≡ 0) (w : n ≡ wordsBefore t + 1) where
-    buffer-decides : writeRefusal t (length buf) ≡ firstRefusal (tooShort (length buf) (4 * n))
-    buffer-decides = first-of-two ∙ ap₂ (λ (m k : ℕ). orElse m (firstRefusal (tooShort (length buf) (4 * k)))) (sym e ∙ z) (sym w)
+    module _ (n : ℕ) (z : r ≡ 0) (w : n ≡ wordsBefore t + 1) where
+      buffer-decides : writeRefusal t (length buf) ≡ cond (ltb (length buf) (4 * n)) 12 0
+      unfolding writeRefusal trialRefusal firstRefusal
+      buffer-decides = first-passes (trialChecks t) short (trialChecks-numbered t) r e z ∙ ap (λ (k : ℕ). cond (ltb (length buf) (4 * k)) 12 0) (sym w)
 
-    pub writing-short : length buf < 4 * n → (record { refusal = 12; length = 0 } ≡ writingOf t (length buf)) × (buf ≡ afterWriting t buf)
-    unfolding firstRefusal
-    writing-short h = turned-away 12 (buffer-decides ∙ ap (λ (b : Bool). cond b 12 0) (lt-ltb (length buf) (4 * n) h)) (λ q. omega arith)
+      pub writing-short : length buf < 4 * n → (record { refusal = 12; length = 0 } ≡ writingOf t (length buf)) × (buf ≡ afterWriting t buf)
+      writing-short h = turned-away 12 (sym (buffer-decides ∙ ap (λ (b : Bool). cond b 12 0) (lt-ltb (length buf) (4 * n) h))) (λ q. omega arith)
 
-    pub writing-done : (out : List ℕ) → 4 * n ≤ length buf → out ≡ written (fileOf t) buf → (record { refusal = 0; length = 4 * n } ≡ writingOf t (length buf)) × (out ≡ afterWriting t buf)
-    unfolding firstRefusal writingOf afterWriting
-    writing-done out h g =
-        let f : writeRefusal t (length buf) ≡ 0 = buffer-decides ∙ ap (λ (b : Bool). cond b 12 0) (le-ltb (length buf) (4 * n) h) in
-        (sym (ap₂ (λ (m k : ℕ). record { refusal = m; length = cond (eqb m 0) (4 * k) 0 }) f (sym w)), g ∙ sym (ap (λ (m : ℕ). cond (eqb m 0) (written (fileOf t) buf) buf) f))
+      pub writing-done : (out : List ℕ) → 4 * n ≤ length buf → out ≡ written (fileOf t) buf → (record { refusal = 0; length = 4 * n } ≡ writingOf t (length buf)) × (out ≡ afterWriting t buf)
+      unfolding writingOf afterWriting
+      writing-done out h g =
+          let f : 0 ≡ writeRefusal t (length buf) = sym (buffer-decides ∙ ap (λ (b : Bool). cond b 12 0) (le-ltb (length buf) (4 * n) h)) in (
+            ap₂ (λ (m k : ℕ). record { refusal = m; length = k }) f (ap (λ (k : ℕ). 4 * k) w ∙ given-done 0 _ f (fileLength t) (λ _. 0) refl),
+            g ∙ given-done 0 _ f (written (fileOf t) buf) (λ _. buf) refl,
+          )

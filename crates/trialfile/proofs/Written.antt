@@ -5,7 +5,7 @@
 use Prim.Native.Nat.{ℕ, _+_, _*_, _%_, _≤_, _<_}
 use native.Mathlib.Omega.{arith}
 use mathlib.Core.Path.{_≡_, refl, sym, ap, ap₂, _∙_, subst}
-use mathlib.Core.Bool.{Bool, false, not, _||_}
+use mathlib.Core.Bool.{false, not}
 use mathlib.Core.List.{List, [], _∷_, _++_, map, zipWith}
 use lib.ListN.{length, take, drop, length-append, length-map}
 use lib.Seq.{take-at, drop-at}
@@ -14,6 +14,7 @@ use lib.IntN.{ℤ}
 use borrow.Author.Tests.{le-ltb, ne-eqb, eq-eqb}
 use Rattle.stepdown.specs.Refusals.{badLevel}
 use Rattle.stepdown.proofs.Accepted.{NoneHolds}
+use Rattle.stepdown.proofs.Refusals.{neither, none-first, none-join}
 use Rattle.trial.specs.Record.{Typed}
 use Rattle.trial.specs.Refusals.{badCounts, trialRefusal}
 use Rattle.trial.specs.declared.Trial.{Trial}
@@ -22,12 +23,8 @@ use Rattle.trialfile.specs.Files.{filled, trialOf, wordsBefore, longest,
 use Rattle.trialfile.specs.Writings.{offerWords, differenceWords, fileWords, fileOf, fileLength, trimmed}
 use Rattle.trialfile.proofs.Words.{words-bytes, bytesOf-length}
 use Rattle.trialfile.proofs.Fields.{level-kind, level-a, level-b, shape-kind, shape-unused, shape-k, shape-offers, shape-pairs, end-kind, end-count}
-use Rattle.trialfile.proofs.Checks.{none-first, none-join}
 use Rattle.trialfile.proofs.Parts.{product-most, Parts, parts}
 use Rattle.trialfile.proofs.Places.{no-other, offers-pass, codes-back, digits-back, offerWords-length, differences-pass, differences-back}
-
-both : {b c : Bool} → b ≡ false → c ≡ false → (b || c) ≡ false
-both e f = rw (e, f)
 
 counts-same : {k n p k′ n′ p′ : ℕ} → k ≡ k′ → n ≡ n′ → p ≡ p′ → badCounts k n p ≡ badCounts k′ n′ p′
 counts-same e f g = rw (e, f, g)
@@ -110,7 +107,7 @@ module _ (t : Trial) (ty : Typed t) (h : trialRefusal t ≡ 0) where
       (offers-stand p (differenceWords t ++ end))
       (rw (drop-at (offerWords t) (differenceWords t ++ end) (t .offers) offerWords-used, drop-at (differenceWords t) end (t .offers * t .pairs) differenceWords-used)
       (none-join (differencePlaces (t .offers * t .pairs) (differenceWords t ++ end)) (endPlace (wordsBefore t) end) (differences-stand p end)
-      (no-other 15 (endWord (wordsBefore t)) (end-kind (wordsBefore t) n), (both (ap not (eq-eqb (countOf (endWord (wordsBefore t))) (wordsBefore t) (end-count (wordsBefore t) n))) refl, tt))))
+      (no-other 15 (endWord (wordsBefore t)) (end-kind (wordsBefore t) n), (neither (ap not (eq-eqb (countOf (endWord (wordsBefore t))) (wordsBefore t) (end-count (wordsBefore t) n))) refl, tt))))
     where
       offers-stand : Parts t → (rest : List ℕ) → NoneHolds (offerPlaces [] (t .offers) (offerWords t ++ rest))
       offers-stand p rest =
@@ -138,7 +135,7 @@ module _ (t : Trial) (ty : Typed t) (h : trialRefusal t ≡ 0) where
     shape-passes = (
       no-other 2 w (shape-kind (t .k) (t .offers) (t .pairs) k n p),
       (
-        both
+        neither
             (counts-same (shape-k (t .k) (t .offers) (t .pairs) k n p) (shape-offers (t .k) (t .offers) (t .pairs) k n p) (shape-pairs (t .k) (t .offers) (t .pairs) k n p) ∙ parts t ty h .counts)
             (ap not (eq-eqb (unusedOf w) 0 (shape-unused (t .k) (t .offers) (t .pairs) k n p))),
         tt,

@@ -24,8 +24,8 @@ use lib.ListN.{length, take, drop}
 use lib.Dec.{ltb, eqb}
 use lib.IntN.{ℤ, pos}
 use Rattle.stepdown.specs.Buffers.{padded}
-use Rattle.stepdown.specs.Refusals.{Checks, firstRefusal, badLevel}
-use Rattle.trial.specs.Refusals.{badCounts, badDigits, has, badDifference}
+use Rattle.stepdown.specs.Refusals.{Checks, firstRefusal, badSizes, badLevel}
+use Rattle.trial.specs.Refusals.{badCounts, badDigits, has, earlierOf, badDifference}
 use Rattle.trial.specs.declared.Trial.{Trial}
 use Rattle.trialfile.specs.Words.{wordsOf, word, kindOf, levelKind, shapeKind, offerKind, differenceKind, endKind, aOf, bOf, unusedOf, kOf, offersOf, pairsOf, digitsOf, codeOf, differenceOf, countOf}
 use Rattle.trialfile.specs.declared.Reading.{Reading}
@@ -89,8 +89,8 @@ offerPlaces earlier (suc n) ws = offerPlace earlier (word ws 0) ++ offerPlaces (
 
 -- the numbers of the first n offers, the last of them first
 unfoldable pub earlierCodes : List ℕ → ℕ → List ℕ
-earlierCodes ws zero = []
-earlierCodes ws (suc n) = codeOf (word ws (n + 2)) ∷ earlierCodes ws n
+unfolding earlierOf
+earlierCodes ws n = earlierOf n (map codeOf (drop 2 ws))
 
 abbrev pub differencePlace : ℕ → Checks
 differencePlace w = (otherKind differenceKind w, 2) ∷ (badDifference (differenceOf w), 7) ∷ []
@@ -114,7 +114,7 @@ bodyPlaces n pairs ws =
     offerPlaces [] n offers ++ (differencePlaces (n * pairs) differences ++ endPlace (2 + n + n * pairs) end)
 
 unfoldable pub placeChecks : List ℕ → Checks
-unfolding badLevel badCounts offerPlaces differencePlaces
+unfolding badLevel badSizes offerPlaces differencePlaces
 placeChecks ws = levelPlace (word ws 0) ++ (shapePlace (word ws 1) ++ bodyPlaces (offersOf (word ws 1)) (pairsOf (word ws 1)) ws)
 
 unfoldable pub fileChecks : List ℕ → Checks

@@ -31,7 +31,7 @@ fn seen(file: &[u8], n: usize, code: u32) -> bool
     let mut i = n;
     while 0 < i {
         i -= 1;
-        let earlier = word::word_at(file, i + 2);
+        let earlier = word::word_at(file, 2 + i);
         if code == earlier % 16777216 {
             return true;
         }
@@ -70,9 +70,9 @@ fn judge_shape(file: &[u8]) -> u32
 // of offer i: the kind before the value, and 5 before 6
 fn judge_offer(file: &[u8], i: usize) -> u32
     requires { ⌜ i < 16 ⌝ }
-    ensures { λ r. ⌜ r ≡ firstRefusal (offerPlace (earlierCodes (wordsOf (now (file .entry))) i) (word (wordsOf (now (file .entry))) (i + 2))) ⌝ }
+    ensures { λ r. ⌜ r ≡ firstRefusal (offerPlace (earlierCodes (wordsOf (now (file .entry))) i) (word (wordsOf (now (file .entry))) (2 + i))) ⌝ }
 {
-    let w = word::word_at(file, i + 2);
+    let w = word::word_at(file, 2 + i);
     let code = w % 16777216;
     let other = w / 268435456 != 3;
     let unprintable = trial::bad_digits(code, (w / 16777216 % 16) as usize);

@@ -10,32 +10,27 @@ ghost use Rattle.stepdown.specs.Buffers.{padded};
 ghost use Rattle.trialfile.specs.Words.{wordsOf, codeOf, digitsOf, differenceOf};
 ghost use Rattle.trialfile.specs.Files.{blank, trialOf, fileRefusal};
 
-fn read_codes(file: &[u8], n: usize) -> [u32; 16]
-    requires { ⌜ (n ≤ 16) × (n + 2 ≤ length (wordsOf (now file))) ⌝ }
-    ensures { λ r. ⌜ r ≡ padded 16 0 (map codeOf (take n (drop 2 (wordsOf (now (file .entry)))))) ⌝ }
-{
-    let mut codes = [0u32; 16];
-    let mut i: usize = 0;
-    while i < n {
-        let w = word::word_at(file, 2 + i);
-        codes[i] = w % 16777216;
-        i += 1;
-    }
-    codes
+// The numbers and the printed digits of offers, as a trial holds them.
+pub struct Offers {
+    pub codes: [u32; 16],
+    pub digits: [u8; 16],
 }
 
-fn read_digits(file: &[u8], n: usize) -> [u8; 16]
+// n offers, which stand after the first two words
+fn read_offers(file: &[u8], n: usize) -> Offers
     requires { ⌜ (n ≤ 16) × (n + 2 ≤ length (wordsOf (now file))) ⌝ }
-    ensures { λ r. ⌜ r ≡ padded 16 0 (map digitsOf (take n (drop 2 (wordsOf (now (file .entry)))))) ⌝ }
+    ensures { λ r. ⌜ (r .codes ≡ padded 16 0 (map codeOf (take n (drop 2 (wordsOf (now (file .entry))))))) × (r .digits ≡ padded 16 0 (map digitsOf (take n (drop 2 (wordsOf (now (file .entry))))))) ⌝ }
 {
+    let mut codes = [0u32; 16];
     let mut digits = [0u8; 16];
     let mut i: usize = 0;
     while i < n {
         let w = word::word_at(file, 2 + i);
+        codes[i] = w % 16777216;
         digits[i] = (w / 16777216 % 16) as u8;
         i += 1;
     }
-    digits
+    Offers { codes, digits }
 }
 
 // n differences that stand after the first `from` words
@@ -62,14 +57,17 @@ pub(crate) fn read_trial(file: &[u8]) -> Trial
     let shape = word::word_at(file, 1);
     let offers = (shape / 256 % 256) as usize;
     let pairs = (shape % 256) as usize;
+    let printed = read_offers(file, offers);
+    let codes = printed.codes;
+    let digits = printed.digits;
     Trial {
         a: (level / 16384 % 16384) as usize,
         b: (level % 16384) as usize,
         k: (shape / 65536 % 256) as usize,
         offers,
         pairs,
-        codes: read_codes(file, offers),
-        digits: read_digits(file, offers),
+        codes,
+        digits,
         differences: read_differences(file, 2 + offers, offers * pairs),
     }
 }

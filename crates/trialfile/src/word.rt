@@ -2,7 +2,7 @@
 ghost use mathlib.Core.Path.{_≡_};
 ghost use Prim.Native.Nat.{_<_, _≤_};
 ghost use lib.IntN.{natAbs};
-ghost use Rattle.trialfile.specs.Words.{wordsOf, word, differenceOf, levelWord, shapeWord, offerWord, differenceWord};
+ghost use Rattle.trialfile.specs.Words.{wordsOf, word, differenceOf, levelWord, shapeWord, offerWord, bitsOf, differenceWord};
 
 fn wide(x: u8) -> u32
     ensures { λ r. ⌜ (r ≡ x) × (r < 256) ⌝ }
@@ -59,13 +59,20 @@ pub(crate) fn offer_word(code: u32, digits: u8) -> u32
     805306368 + wide(digits) * 16777216 + code
 }
 
-// two's complement in 28 bits
+// bits 27-0 of a difference, two's complement
+fn bits_of(d: i32) -> u32
+    requires { ⌜ natAbs d ≤ 134217727 ⌝ }
+    ensures { λ r. ⌜ (r ≡ bitsOf d) × (r < 268435456) ⌝ }
+{
+    if d < 0 {
+        return (d + 268435456) as u32;
+    }
+    d as u32
+}
+
 pub(crate) fn difference_word(d: i32) -> u32
     requires { ⌜ natAbs d ≤ 134217727 ⌝ }
     ensures { λ r. ⌜ r ≡ differenceWord d ⌝ }
 {
-    if d < 0 {
-        return 1073741824 + ((d + 268435456) as u32);
-    }
-    1073741824 + (d as u32)
+    1073741824 + bits_of(d)
 }

@@ -18,7 +18,7 @@ mul-if2 c = search needs
 
 returns-2 : tie.Need-returns-2
 returns-2 c =
-    writing-short _ _ _ _ (c .before .before .before .check .ensures) (c .before .before .if1 .left) (c .before .word-count .ensures .0) (c .if2 .taken)
+    writing-short _ _ _ (c .before .before .before .check .ensures) _ (c .before .before .if1 .left) (c .before .word-count .ensures .0) (c .if2 .taken)
 
 write-words-requires : tie.Need-write-words-requires
 write-words-requires c κs = search needs
@@ -32,7 +32,7 @@ same-length c = search needs
 returns-3 : tie.Need-returns-3
 returns-3 c =
     let n = c .before .before .before .before .before in
-    writing-done _ _ _ _ (n .before .before .check .ensures) (n .before .if1 .left) (n .word-count .ensures .0) _ (c .before .before .before .before .if2 .left) (c .before .before .write-words .ensures)
+    writing-done _ _ _ (n .before .before .check .ensures) _ (n .before .if1 .left) (n .word-count .ensures .0) _ (c .before .before .before .before .if2 .left) (c .before .before .write-words .ensures)
 
 pub write-spec : {M : Type 1} → statement M
 write-spec =

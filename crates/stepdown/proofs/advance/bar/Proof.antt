@@ -1,7 +1,6 @@
 -- `bar` meets its contract: step 1 looks at all columns, a later one at those left with k - 1 rejected ones put back.
-use Rattle.stepdown.proofs.Advancing.{level-fits, level-some, few, all-held, bar-start, bar-next, rejected-under, walk-start, put-held, new-fits, advance-is, stops-none, stops-few, stops-full}
+use Rattle.stepdown.proofs.Advancing.{level-fits, level-some, few, all-held, bar-start, bar-next, rejected-under, walk-start, put-held}
 use native.Mathlib.Omega.{arith}
-use mathlib.Core.Path.{_≡_, refl, sym, ap, _∙_}
 use borrow.Author.Needs.{needs}
 use Rattle.stepdown.proofs.advance.bar.Statement.{statement}
 use Rattle.stepdown.proofs.advance.bar.Tie as tie

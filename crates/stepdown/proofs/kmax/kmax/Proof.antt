@@ -7,9 +7,9 @@ use lib.Ieee.{nanBits, ofBits}
 use lib.Dec.{T}
 use lib.ListN.{length}
 use mathlib.Core.Logic.{⊎-elim}
-use mathlib.Core.Path.{_≡_, refl, sym, ap, _∙_}
+use mathlib.Core.Path.{ap, _∙_}
 use native.Mathlib.Omega.{arith}
-use Prim.Native.Nat.{ℕ, _≤_, _<_, _-_}
+use Prim.Native.Nat.{_≤_, _<_, _-_}
 use borrow.Author.Needs.{needs}
 use Rattle.stepdown.proofs.kmax.kmax.Statement.{statement}
 use Rattle.stepdown.proofs.kmax.kmax.Tie as tie

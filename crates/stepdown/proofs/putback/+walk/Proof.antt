@@ -2,10 +2,9 @@
 use borrow.Author.Needs.{needs}
 use Prim.Native.Nat.{ℕ, _<_}
 use native.Mathlib.Omega.{arith}
-use mathlib.Core.Path.{_≡_, refl, sym, _∙_}
+use mathlib.Core.Path.{refl, _∙_}
 use borrow.Fn.Kinds.{In}
 use borrow.Fn.PlainCycle.{Measures, is, falls, and}
-use Rattle.stepdown.specs.Internal.{Ready, Walk}
 use Rattle.stepdown.proofs.Walking.{leaf-held, leaf-above, leaf-below, none-value, past-value, in-value, before-end, chosen-fits, chosen-columns, walk-in, walk-past, half-falls}
 use Rattle.stepdown.proofs.putback.walk.Reads as walk
 use Rattle.stepdown.proofs.putback.walk.Kinds as walk-kinds

@@ -1,14 +1,9 @@
 -- `critical` meets its contract.
 use lib.Seq.{length-take-le}
 use Rattle.stepdown.proofs.Filling.{back-is, quantile-is, front-rank}
-use Rattle.stepdown.specs.Internal.{Ready}
-use Rattle.stepdown.specs.Method.{kMax}
-use Rattle.stepdown.specs.Columns.{size, columnsOf}
-use Rattle.stepdown.specs.Tables.{rowsOf}
-use lib.ListN.{length, length-set}
-use mathlib.Core.Path.{_≡_, refl, sym, ap, _∙_}
+use mathlib.Core.Path.{sym}
 use native.Mathlib.Omega.{arith}
-use Prim.Native.Nat.{ℕ, _≤_, _<_, _-_}
+use Prim.Native.Nat.{_-_}
 use borrow.Author.Needs.{needs}
 use Rattle.stepdown.proofs.quantile.critical.Statement.{statement}
 use Rattle.stepdown.proofs.quantile.critical.Tie as tie

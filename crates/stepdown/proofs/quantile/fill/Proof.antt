@@ -5,9 +5,9 @@ use Rattle.stepdown.specs.Method.{kMax}
 use Rattle.stepdown.specs.Columns.{size, columnsOf}
 use Rattle.stepdown.specs.Tables.{rowsOf}
 use lib.ListN.{length, length-set}
-use mathlib.Core.Path.{_≡_, refl, sym, ap, _∙_}
+use mathlib.Core.Path.{_≡_, refl}
 use native.Mathlib.Omega.{arith}
-use Prim.Native.Nat.{ℕ, _≤_, _<_, _-_}
+use Prim.Native.Nat.{_≤_, _-_}
 use mathlib.Core.List.{[]}
 use borrow.Author.Needs.{needs}
 use Rattle.stepdown.proofs.quantile.fill.Statement.{statement}

@@ -9,11 +9,11 @@ use borrow.Author.Needs.{needs}
 use Rattle.trialfile.proofs.judging.judge_body.Statement.{statement}
 use Rattle.trialfile.proofs.judging.judge_body.Tie as tie
 
+most : (c : tie.Start) → c .args .offers * c .args .pairs ≤ 144
+most c = product-most (c .args .offers) (c .args .pairs) (c .pre .0) (c .pre .1)
+
 mul-n : tie.Need-mul-n
-mul-n c =
-    let args = c .before .args in
-    let most : args .offers * args .pairs ≤ 144 = product-most (args .offers) (args .pairs) (omega arith) (omega arith) in
-    record { fits = omega arith }
+mul-n c = record { fits = omega (arith, most (c .before)) }
 
 judge-offers-requires : tie.Need-judge-offers-requires
 judge-offers-requires c κs = search needs
@@ -27,10 +27,7 @@ add-judge-differences : tie.Need-add-judge-differences
 add-judge-differences c = search needs
 
 judge-differences-requires : tie.Need-judge-differences-requires
-judge-differences-requires c κs =
-    let args = c .before .before .before .args in
-    let most : args .offers * args .pairs ≤ 144 = product-most (args .offers) (args .pairs) (omega arith) (omega arith) in
-    (omega arith, omega arith)
+judge-differences-requires c κs = let m = most (c .before .before .before) in (omega arith, m)
 
 returns-2 : tie.Need-returns-2
 returns-2 c =
@@ -40,16 +37,10 @@ add-judge-end : tie.Need-add-judge-end
 add-judge-end c = search needs
 
 add-judge-end-2 : tie.Need-add-judge-end-2
-add-judge-end-2 c =
-    let args = c .before .before .before .before .before .args in
-    let most : args .offers * args .pairs ≤ 144 = product-most (args .offers) (args .pairs) (omega arith) (omega arith) in
-    record { fits = omega arith }
+add-judge-end-2 c = record { fits = omega (arith, most (c .before .before .before .before .before)) }
 
 judge-end-requires : tie.Need-judge-end-requires
-judge-end-requires c κs =
-    let args = c .before .before .before .before .before .args in
-    let most : args .offers * args .pairs ≤ 144 = product-most (args .offers) (args .pairs) (omega arith) (omega arith) in
-    omega arith
+judge-end-requires c κs = omega (arith, most (c .before .before .before .before .before))
 
 returns-3 : tie.Need-returns-3
 returns-3 c =

@@ -1,18 +1,18 @@
 -- `judge_differences` takes a difference off the front of the list at each turn.
 use mathlib.Core.Path.{_≡_, sym, _∙_}
-use Prim.Native.Nat.{_+_, _-_, _≤_}
+use Prim.Native.Nat.{_-_, _≤_}
 use native.Mathlib.Omega.{arith}
 use lib.ListN.{drop}
 use Rattle.stepdown.specs.Refusals.{firstRefusal}
 use Rattle.trialfile.specs.Words.{wordsOf}
 use Rattle.trialfile.specs.Files.{differencePlaces}
-use Rattle.trialfile.proofs.Judged.{differences-start, difference-decides, difference-passes, differences-end}
+use Rattle.trialfile.proofs.Judged.{differencesFrom, differences-start, difference-decides, difference-passes, differences-end}
 use borrow.Author.Needs.{needs}
 use Rattle.trialfile.proofs.judging.judge_differences.Statement.{statement}
 use Rattle.trialfile.proofs.judging.judge_differences.Tie as tie
 
 abbrev Inv-loop : tie.InvT-loop
-Inv-loop file from n i₀ i = (i ≤ n) × (from ≤ 18) × (n ≤ 144) × (firstRefusal (differencePlaces n (drop from (wordsOf file))) ≡ firstRefusal (differencePlaces (n - i) (drop (from + i) (wordsOf file))))
+Inv-loop file from n i₀ i = (i ≤ n) × (from ≤ 18) × (n ≤ 144) × (firstRefusal (differencePlaces n (drop from (wordsOf file))) ≡ firstRefusal (differencesFrom (wordsOf file) from n i))
 
 abbrev μ-loop : tie.MeasureT-loop
 μ-loop file from n i₀ i = n - i

@@ -17,40 +17,41 @@ cast-offers c = search needs
 cast-pairs : tie.Need-cast-pairs
 cast-pairs c = search needs
 
-cast-t8 : tie.Need-cast-t8
-cast-t8 c = search needs
+read-offers-requires : tie.Need-read-offers-requires
+read-offers-requires c κs =
+    let pre = c .before .before .before .pre in
+    let shape = c .word-at2 .ensures in
+    (offers-fit _ pre _ shape, omega (arith, words-fit _ pre _ shape))
 
-cast-t10 : tie.Need-cast-t10
-cast-t10 c = search needs
+cast-t11 : tie.Need-cast-t11
+cast-t11 c = search needs
 
 cast-t13 : tie.Need-cast-t13
 cast-t13 c = search needs
 
-read-codes-requires : tie.Need-read-codes-requires
-read-codes-requires c κs =
-    (offers-fit _ (c .before .before .before .pre) _ (c .word-at2 .ensures), omega (arith, words-fit _ (c .before .before .before .pre) _ (c .word-at2 .ensures)))
-
-read-digits-requires : tie.Need-read-digits-requires
-read-digits-requires c κs =
-    (offers-fit _ (c .before .before .before .before .pre) _ (c .before .word-at2 .ensures), omega (arith, words-fit _ (c .before .before .before .before .pre) _ (c .before .word-at2 .ensures)))
+cast-t16 : tie.Need-cast-t16
+cast-t16 c = search needs
 
 add-read-differences : tie.Need-add-read-differences
 add-read-differences c = search needs
 
 mul-read-differences : tie.Need-mul-read-differences
 mul-read-differences c =
-    record { fits = omega (arith, product-fits _ (c .before .before .before .before .before .pre) _ (c .before .before .word-at2 .ensures)) }
+    let v = c .before .before .before in
+    record { fits = omega (arith, product-fits _ (v .before .before .before .pre) _ (v .word-at2 .ensures)) }
 
 read-differences-requires : tie.Need-read-differences-requires
 read-differences-requires c κs =
-    let pre = c .before .before .before .before .before .pre in
-    let shape = c .before .before .word-at2 .ensures in
+    let v = c .before .before .before in
+    let pre = v .before .before .before .pre in
+    let shape = v .word-at2 .ensures in
     (omega (arith, offers-fit _ pre _ shape), product-fits _ pre _ shape, words-fit _ pre _ shape)
 
 returns : tie.Need-returns
 returns c =
-    let shape = c .before .before .before in
-    trial-read _ _ _ _ _ _ (shape .before .word-at .ensures) (shape .word-at2 .ensures) (c .before .before .read-codes .ensures) (c .before .read-digits .ensures) (c .read-differences .ensures)
+    let o = c .before .before .before in
+    let v = o .before in
+    trial-read _ _ _ _ _ _ (v .before .word-at .ensures) (v .word-at2 .ensures) (o .read-offers .ensures .0) (o .read-offers .ensures .1) (c .read-differences .ensures)
 
 pub read-trial-spec : {M : Type 1} → statement M
 read-trial-spec =
@@ -60,11 +61,10 @@ read-trial-spec =
     word-at-requires-2
     cast-offers
     cast-pairs
-    cast-t8
-    cast-t10
+    read-offers-requires
+    cast-t11
     cast-t13
-    read-codes-requires
-    read-digits-requires
+    cast-t16
     add-read-differences
     mul-read-differences
     read-differences-requires

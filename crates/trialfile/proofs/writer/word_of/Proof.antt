@@ -1,7 +1,8 @@
 -- `word_of`: the word of each place.
 use mathlib.Core.Path.{sym, ap, _∙_}
+use Prim.Native.Nat.{_*_, _≤_}
 use native.Mathlib.Omega.{arith}
-use Rattle.trial.proofs.Accepted.{accepted}
+use Rattle.trial.proofs.Accepted.{Accepted, accepted}
 use Rattle.trialfile.specs.Words.{differenceWord}
 use Rattle.trialfile.proofs.Parts.{product-most}
 use Rattle.trialfile.proofs.Signed.{same}
@@ -10,9 +11,16 @@ use borrow.Author.Needs.{needs}
 use Rattle.trialfile.proofs.writer.word_of.Statement.{statement}
 use Rattle.trialfile.proofs.writer.word_of.Tie as tie
 
+-- what an accepted trial is known to be, and how many differences it has
+known : (c : tie.Start) → Accepted (c .args .t1)
+known c = accepted _ (c .pre .1)
+
+most : (c : tie.Start) → c .args .t1 .offers * c .args .t1 .pairs ≤ 144
+most c = product-most (c .args .t1 .offers) (c .args .t1 .pairs) (known c .offers-most) (known c .pairs-most)
+
 level-word-requires : tie.Need-level-word-requires
 level-word-requires c κs =
-    let l = accepted _ (c .before .pre .1) .levelled in
+    let l = known (c .before) .levelled in
     (omega (arith, l .proper, l .b-most), omega (arith, l .proper, l .b-most))
 
 returns : tie.Need-returns
@@ -22,7 +30,7 @@ returns c =
 
 shape-word-requires : tie.Need-shape-word-requires
 shape-word-requires c κs =
-    let a = accepted _ (c .before .before .pre .1) in
+    let a = known (c .before .before) in
     (a .k-most, a .offers-most, a .pairs-most)
 
 returns-2 : tie.Need-returns-2
@@ -34,13 +42,13 @@ sub-j : tie.Need-sub-j
 sub-j c = search needs
 
 mul-offer-word : tie.Need-mul-offer-word
-mul-offer-word c = record { fits = omega (arith, accepted _ (c .before .before .before .pre .1) .offers-most) }
+mul-offer-word c = record { fits = omega (arith, known (c .before .before .before) .offers-most) }
 
 element-copy-out-offer-word : tie.Need-element-copy-out-offer-word
-element-copy-out-offer-word c = omega (arith, accepted _ (c .before .before .before .pre .1) .offers-most)
+element-copy-out-offer-word c = omega (arith, known (c .before .before .before) .offers-most)
 
 element-copy-out-offer-word-2 : tie.Need-element-copy-out-offer-word-2
-element-copy-out-offer-word-2 c = omega (arith, accepted _ (c .before .before .before .before .pre .1) .offers-most)
+element-copy-out-offer-word-2 c = omega (arith, known (c .before .before .before .before) .offers-most)
 
 offer-word-requires : tie.Need-offer-word-requires
 offer-word-requires c κs =
@@ -59,21 +67,15 @@ sub-m c = search needs
 
 mul-if4 : tie.Need-mul-if4
 mul-if4 c =
-    let s = c .before .before .before in
-    let a = accepted _ (s .pre .1) in
-    record { fits = omega (arith, product-most (s .args .t1 .offers) (s .args .t1 .pairs) (a .offers-most) (a .pairs-most)) }
+    record { fits = omega (arith, most (c .before .before .before)) }
 
 mul-difference-word : tie.Need-mul-difference-word
 mul-difference-word c =
-    let s = c .before .before .before .before in
-    let a = accepted _ (s .pre .1) in
-    record { fits = omega (arith, product-most (s .args .t1 .offers) (s .args .t1 .pairs) (a .offers-most) (a .pairs-most)) }
+    record { fits = omega (arith, most (c .before .before .before .before)) }
 
 element-copy-out-difference-word : tie.Need-element-copy-out-difference-word
 element-copy-out-difference-word c =
-    let s = c .before .before .before .before in
-    let a = accepted _ (s .pre .1) in
-    omega (arith, product-most (s .args .t1 .offers) (s .args .t1 .pairs) (a .offers-most) (a .pairs-most))
+    omega (arith, most (c .before .before .before .before))
 
 difference-word-requires : tie.Need-difference-word-requires
 difference-word-requires c κs =
@@ -91,14 +93,12 @@ returns-4 c =
 cast-result : tie.Need-cast-result
 cast-result c =
     let s = c .before .before .before .before in
-    let a = accepted _ (s .pre .1) in
-    record { fits = omega (arith, s .pre .2, product-most (s .args .t1 .offers) (s .args .t1 .pairs) (a .offers-most) (a .pairs-most), a .offers-most) }
+    record { fits = omega (arith, s .pre .2, most s, known s .offers-most) }
 
 add-result : tie.Need-add-result
 add-result c =
     let s = c .before .before .before .before in
-    let a = accepted _ (s .pre .1) in
-    record { fits = omega (arith, s .pre .2, product-most (s .args .t1 .offers) (s .args .t1 .pairs) (a .offers-most) (a .pairs-most), a .offers-most) }
+    record { fits = omega (arith, s .pre .2, most s, known s .offers-most) }
 
 returns-5 : tie.Need-returns-5
 returns-5 c =
