@@ -123,7 +123,7 @@ def trial_text(trial: Trial) -> str:
 
 
 def run_text(answer) -> str:
-    """A full run: refusal, steps, how many are rejected; by place its record, verdict, count."""
+    """A full run: refusal, steps, how many are rejected; then its places."""
     if isinstance(answer, Refused):
         return f" {answer.number} 0 0"
     records = padded(answer.records, BLANK_RECORD)
@@ -138,11 +138,12 @@ def padded(places, blank) -> list:
 
 
 def place_text(record, verdict, count) -> str:
-    """Empty where the place is blank."""
+    """Record, verdict, count, and the rejecting step or 0; empty where the place is blank."""
     blank = same(record, BLANK_RECORD)
     if blank and same(verdict, BLANK_VERDICT) and count == 0:
         return ""
-    return f"{'-' if blank else record_text(record)}/{verdict_text(verdict)}/{count}"
+    step = verdict.step if isinstance(verdict, Rejected) else 0
+    return f"{'-' if blank else record_text(record)}/{verdict_text(verdict)}/{count}/{step}"
 
 
 def same(one, other) -> bool:

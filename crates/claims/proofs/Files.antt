@@ -50,7 +50,7 @@ module _ (t : Trial) (ty : Typed t) (h : trialRefusal t ≡ 0) where
 
   module _ (buf : List ℕ) (room : fileLength t ≤ length buf) where
     pub file-written : (record { refusal = 0; length = fileLength t } ≡ writingOf t (length buf)) × (written (fileOf t) buf ≡ afterWriting t buf)
-    file-written = writing-done t buf 0 (wordsBefore t + 1) (sym h) refl refl (written (fileOf t) buf) room refl
+    file-written = writing-done t buf 0 (sym h) (wordsBefore t + 1) refl refl (written (fileOf t) buf) room refl
 
     pub file-left : take (fileLength t) (afterWriting t buf) ≡ fileOf t
     file-left =

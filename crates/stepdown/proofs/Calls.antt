@@ -19,7 +19,7 @@ use Rattle.order.proofs.Booleans.{true-T, never, or-passes}
 use Rattle.stepdown.specs.Tables.{rowsOf}
 use Rattle.stepdown.specs.Columns.{size, columnsOf, everyColumn}
 use Rattle.stepdown.specs.Runs.{begun, rejectedSet, after, recordOf}
-use Rattle.stepdown.specs.Refusals.{Checks, badShape, badLevel, badValue, beginRefusal, badProgress, spoiled, stepRefusal, tableChecks, tableRunRefusal}
+use Rattle.stepdown.specs.Refusals.{Checks, badShape, badLevel, badValue, beginRefusal, badFigures, badProgress, spoiled, stepRefusal, tableChecks, tableRunRefusal}
 use Rattle.stepdown.specs.Buffers.{cleared}
 use Rattle.stepdown.specs.Answers.{beginAnswer, refusalOfBeginning, stepAnswer, stepWork, refusalOfStep}
 use Rattle.stepdown.specs.Internal.{Ready, Going, advanced}

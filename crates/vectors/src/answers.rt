@@ -85,7 +85,12 @@ fn record_if_any(out: &mut [u8], at: usize, r: Record) -> usize {
     record(out, at, r)
 }
 
-// Place j of the lists of a full run: the record where there is one, the verdict, the count.
+fn rejecting_step(out: &mut [u8], at: usize, v: Verdict) -> usize {
+    let n = text::byte(out, at, b'/');
+    text::decimal(out, n, verdicts::rejecting_step(v) as u64)
+}
+
+// Place j of the lists of a full run: the record where there is one, the verdict, the count, the rejecting step or 0.
 fn place(out: &mut [u8], l: Line, j: usize, r: Record, v: Verdict, count: usize) -> Line {
     if blank_place(r, v, count) {
         return lists::blank(l);
@@ -95,7 +100,8 @@ fn place(out: &mut [u8], l: Line, j: usize, r: Record, v: Verdict, count: usize)
     n = text::byte(out, n, b'/');
     n = verdict(out, n, v);
     n = text::byte(out, n, b'/');
-    lists::start(text::decimal(out, n, count as u64))
+    n = text::decimal(out, n, count as u64);
+    lists::start(rejecting_step(out, n, v))
 }
 
 fn places(out: &mut [u8], at: usize, f: FullRun) -> usize {
