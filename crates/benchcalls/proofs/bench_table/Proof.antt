@@ -1,5 +1,7 @@
 -- `bench_table`: the parts of what a full run answers.
+use lib.ListN.{length}
 use borrow.Author.Needs.{needs}
+use Rattle.stepdown.specs.Answers.{fullAnswer, fullWork}
 use Rattle.benchcalls.proofs.Parts.{run-parts}
 use Rattle.benchcalls.proofs.bench_table.Statement.{statement}
 use Rattle.benchcalls.proofs.bench_table.Tie as tie
@@ -14,7 +16,12 @@ same-length : tie.Need-same-length
 same-length c = search needs
 
 returns : tie.Need-returns
-returns c = let p = c .before .before .before .before .before .full-run .ensures in run-parts (p .0) (p .1) (c .before .criticals-of .ensures)
+returns c =
+    let r = c .before .before .before .before .before in
+    let s = r .before .before .before .before .args in
+    run-parts {y = fullAnswer (s .table .now) (s .rows) (s .columns) (s .k) (s .a) (s .b) (s .observed) (length (s .work .now))} (r .full-run .ensures .0)
+    {w = fullWork (s .table .now) (s .rows) (s .columns) (s .k) (s .a) (s .b) (s .observed) (s .work .now)} (r .full-run .ensures .1)
+    (c .before .criticals-of .ensures)
 
 pub bench-table-spec : {M : Type 1} → statement M
 bench-table-spec = tie.close (tie.spec full-run-requires criticals-of-requires same-length returns)
