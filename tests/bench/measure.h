@@ -10,7 +10,7 @@ void *allocate(size_t bytes);
 /* Ends the program, and with it the benchmark, with a message. */
 void fail(const char *message, const char *about);
 
-/* Seconds for one call: the least and the median over the samples. */
+/* Seconds of processor time for one call: the least and the median over the samples. */
 struct timing {
     double least, median;
 };
