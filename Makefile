@@ -27,5 +27,5 @@ host:
 bench:
 	@rt staticlib host
 	@rt staticlib benchcalls
-	@gcc -std=c11 -Wall -Wextra -Werror -O3 -Wl,-z,now -Iinclude -Itests/baseline tests/baseline/*.c tests/bench/*.c target/staticlib/libhost.a target/staticlib/libbenchcalls.a -o target/bench
+	@gcc -std=c11 -Wall -Wextra -Werror -O3 -falign-functions=64 -Wl,-z,now -Iinclude -Itests/baseline tests/baseline/*.c tests/bench/*.c target/staticlib/libhost.a target/staticlib/libbenchcalls.a -o target/bench
 	@target/bench

@@ -75,7 +75,7 @@ static double middle(double x, double y, double z)
     return x < z ? x : y < z ? z : y;
 }
 
-/* The m-th smallest of n values, m from 0, by quickselect with the middle of three as the pivot. Reorders the values. */
+/* The m-th smallest of n values, m from 0, by quickselect with the middle of three as the pivot. Reorders them. */
 static double select_smallest(double *v, size_t n, size_t m)
 {
     ptrdiff_t low = 0, high = (ptrdiff_t)n - 1, want = (ptrdiff_t)m;

@@ -1,9 +1,9 @@
 /*
  * The benchmark: the library against the baseline, in one run and on the same inputs (docs/BENCHMARKS.md).
  *
- *   bench                 compares all answers, then measures and prints tables
- *   bench TASK CALL       makes the input of a task and a call, 0 the baseline's, 1 the library's, 2 none, and prints the
- *                         process's peak memory in KiB
+ *   bench             compares all answers, then measures and prints tables
+ *   bench TASK CALL   makes an input of a task and a call, 0 the baseline's, 1 the library's, 2 none, and prints the
+ *                     process's peak memory in KiB
  */
 #include <stdio.h>
 #include <stdlib.h>
@@ -96,7 +96,8 @@ static void print_times(size_t i)
     if (tasks[i].grows && tasks[i].title != NULL)
         printf(" %7s | %13s |", "", "");
     else if (tasks[i].grows)
-        printf(" %7.2f | %13.2f |", c->least / timings[i - 1][BASELINE].least, l->least / timings[i - 1][LIBRARY].least);
+        printf(" %7.2f | %13.2f |", c->least / timings[i - 1][BASELINE].least,
+               l->least / timings[i - 1][LIBRARY].least);
     putchar('\n');
 }
 
@@ -104,18 +105,20 @@ static void print_times(size_t i)
 
 static void compare_all(void)
 {
+    size_t inputs = 0;
     for (size_t i = 0; i < TASKS; i++) {
-        prepare(&tasks[i]);
+        prepare(&tasks[i], inputs_of(&tasks[i]));
         facts[i] = compare(&tasks[i]);
+        inputs += inputs_of(&tasks[i]);
     }
-    printf("%d inputs: the library and the baseline answer the same\n", (int)TASKS);
+    printf("%zu inputs: the library and the baseline answer the same\n", inputs);
 }
 
 static void time_all(void)
 {
     for (size_t i = 0; i < TASKS; i++) {
-        prepare(&tasks[i]);
-        time_both(calls_of(&tasks[i]), timings[i]);
+        prepare(&tasks[i], inputs_of(&tasks[i]));
+        time_both(calls_of(&tasks[i]), inputs_of(&tasks[i]), timings[i]);
         if (tasks[i].title != NULL)
             print_head(&tasks[i]);
         print_times(i);
@@ -129,7 +132,7 @@ static int by_size(const void *x, const void *y)
     return (a > b) - (a < b);
 }
 
-/* Peak memory of a process that makes the input of a task and one call: the median over processes, for a slow call one. */
+/* Peak memory of a process that makes an input of a task and one call: the median over processes, or one if slow. */
 static long peak(size_t i, const char *which)
 {
     enum { PROCESSES = 9 };
@@ -157,11 +160,12 @@ static void print_memory(void)
 int main(int argc, char **argv)
 {
     if (argc == 3) {
-        const struct task *task = &tasks[atoi(argv[1])];
-        int which = atoi(argv[2]);
-        prepare(task);
+        size_t task = strtoul(argv[1], NULL, 10), which = strtoul(argv[2], NULL, 10);
+        if (task >= TASKS)
+            fail("no such task", argv[1]);
+        prepare(&tasks[task], 1);
         if (which < BOTH)
-            calls_of(task)[which]();
+            calls_of(&tasks[task])[which]();
         printf("%ld\n", peak_so_far());
         return 0;
     }

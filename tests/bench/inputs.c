@@ -97,12 +97,11 @@ static size_t make_ordered(const struct recipe *r, double *values)
     return largest;
 }
 
-void make_table(const struct recipe *r, struct table *t)
+void make_table(const struct recipe *r, size_t number, struct table *t)
 {
     double *values = allocate(r->rows * r->columns * sizeof *values);
-    double *work = allocate(r->rows * sizeof *work);
     size_t observed = 0;
-    state = SEED;
+    state = SEED + number;
     if (r->pattern == WINNERS)
         make_winners(r, values);
     else if (r->pattern == LADDER)
@@ -112,28 +111,43 @@ void make_table(const struct recipe *r, struct table *t)
     if (r->pattern != WINNERS)
         for (size_t j = 0; j < r->columns; j++)
             values[observed * r->columns + j] = rung(r, j) + 60;
-    memset(work, 0, r->rows * sizeof *work);
-    *t = (struct table){values, r->rows * r->columns, r->rows, r->columns, r->k, 1, 20, observed, work, r->rows};
+    *t = (struct table){values, r->rows * r->columns, r->rows, r->columns, r->k, 1, 20, observed, NULL, 0};
 }
 
-/* The difference of offer i in pair j. */
-static int32_t difference(enum pattern pattern, size_t i, size_t j)
+static void make_winner(int32_t *differences, size_t pairs)
 {
-    if (pattern == VALLEY) {
-        int32_t d = (int32_t)((16 + i / 2) << j);
-        return i % 2 == 0 ? d : -d;
-    }
-    return (int32_t)(i % 2 == 0 ? 60000 + 30000 * uniform() : 20000 * noise());
+    for (size_t j = 0; j < pairs; j++)
+        differences[j] = (int32_t)(60000 + 30000 * uniform());
 }
 
-void make_trial(enum pattern pattern, size_t k, struct trial *t)
+static void make_loser(int32_t *differences, size_t pairs)
 {
-    state = SEED;
+    int32_t sum = 0;
+    for (size_t j = 0; j < pairs; j++)
+        sum += differences[j] = (int32_t)(20000 * noise());
+    for (size_t j = 0; j < pairs && sum > 0; j++)
+        differences[j] = -differences[j];
+}
+
+static void make_doubling(int32_t *differences, size_t pairs, int32_t first)
+{
+    for (size_t j = 0; j < pairs; j++)
+        differences[j] = first * (1 << j);
+}
+
+void make_trial(enum pattern pattern, size_t k, size_t number, struct trial *t)
+{
+    state = SEED + number;
     *t = (struct trial){.a = 1, .b = 20, .k = k, .offers = MOST_OFFERS, .pairs = MOST_PAIRS};
     for (size_t i = 0; i < t->offers; i++) {
+        int32_t *differences = t->differences + i * t->pairs, size = 16 + (int32_t)(i / 2);
         t->codes[i] = 9999999 - 7919 * (uint32_t)i;
         t->digits[i] = MOST_DIGITS;
-        for (size_t j = 0; j < t->pairs; j++)
-            t->differences[i * t->pairs + j] = difference(pattern, i, j);
+        if (pattern == VALLEY)
+            make_doubling(differences, t->pairs, i % 2 == 0 ? size : -size);
+        else if (i % 2 == 0)
+            make_winner(differences, t->pairs);
+        else
+            make_loser(differences, t->pairs);
     }
 }

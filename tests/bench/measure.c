@@ -12,7 +12,7 @@
 
 enum { MOST_SAMPLES = 15, FEWEST_SAMPLES = 2 };
 
-/* In seconds: how long a sample is at least, how long the samples of a call are together, what is a slow call. */
+/* In seconds: how long a sample is at least, how long samples are together, which sample is long. */
 static const double SAMPLE = 0.01, TOGETHER = 4, SLOW = 1;
 
 void fail(const char *message, const char *about)
@@ -61,23 +61,25 @@ static size_t between(double low, double high, double x)
 }
 
 /* So many calls that a sample of them is long enough. This is the warm-up too; gives the seconds of its last sample. */
-static size_t calibrate(call f, double *seconds)
+static size_t calibrate(call f, size_t fewest, double *seconds)
 {
-    size_t calls = 1;
+    size_t calls = fewest;
     while ((*seconds = sample(f, calls)) * (double)calls < SAMPLE)
         calls *= 2;
     return calls;
 }
 
-void time_both(const call calls[2], struct timing timing[2])
+void time_both(const call calls[2], size_t fewest, struct timing timing[2])
 {
-    double seconds[2][MOST_SAMPLES];
+    double seconds[2][MOST_SAMPLES], longest = 0;
     size_t each[2];
-    for (int i = 0; i < 2; i++)
-        each[i] = calibrate(calls[i], &seconds[i][0]);
-    double slower = seconds[0][0] > seconds[1][0] ? seconds[0][0] : seconds[1][0];
-    size_t samples = between(FEWEST_SAMPLES, MOST_SAMPLES, TOGETHER / slower);
-    for (size_t s = slower > SLOW ? 1 : 0; s < samples; s++) /* of a slow call the warm-up is the first sample */
+    for (int i = 0; i < 2; i++) {
+        each[i] = calibrate(calls[i], fewest, &seconds[i][0]);
+        double length = seconds[i][0] * (double)each[i];
+        longest = length > longest ? length : longest;
+    }
+    size_t samples = between(FEWEST_SAMPLES, MOST_SAMPLES, TOGETHER / longest);
+    for (size_t s = longest > SLOW ? 1 : 0; s < samples; s++) /* if it was long, the warm-up is the first sample */
         for (int i = 0; i < 2; i++)
             seconds[i][s] = sample(calls[i], each[i]);
     for (int i = 0; i < 2; i++) {

@@ -18,8 +18,8 @@ struct timing {
 /* A call on the prepared input. */
 typedef void (*call)(void);
 
-/* Times two calls by turns, after a warm-up. A sample of a short call is the mean over many calls. */
-void time_both(const call calls[2], struct timing timing[2]);
+/* Times two calls by turns, after a warm-up. A sample is the mean over so many calls, or twice, four times as many. */
+void time_both(const call calls[2], size_t fewest, struct timing timing[2]);
 
 /* Bytes of stack that a call uses, at most. */
 size_t stack_of(call f);

@@ -1,4 +1,4 @@
-/* What is measured: an input, the two calls on it, and the comparison of their answers. */
+/* What is measured: inputs, the two calls on them, and the comparison of their answers. */
 #include <stdlib.h>
 #include <string.h>
 
@@ -6,14 +6,21 @@
 #include "measure.h"
 #include "tasks.h"
 
-/* The input: a table, or a file and its trial. */
-static struct table table;
-static struct trial trial;
-static size_t figures[FIGURES];
-static uint8_t file[LONGEST_FILE];
-static size_t length;
+enum { MOST_INPUTS = 32, FILES = 16, VALUES = MOST_ROWS * MOST_COLUMNS };
 
-/* An answer: its number, and the bytes that it fills. A read trial has its figures apart in the library. */
+/* An input: a table, or a file and its trial, whose figures the library takes apart. */
+static struct input {
+    struct table table;
+    struct trial trial;
+    size_t figures[FIGURES];
+    uint8_t file[LONGEST_FILE];
+} inputs[MOST_INPUTS];
+
+static size_t prepared;        /* how many there are, a power of two */
+static size_t turn[BOTH];      /* how many calls each implementation has made */
+static double work[MOST_ROWS]; /* the work buffer of all tables */
+
+/* An answer: its number, the bytes that it fills, and what was read. */
 static struct answer {
     size_t number;
     uint8_t bytes[LONGEST_REPORT];
@@ -23,62 +30,73 @@ static struct answer {
 
 /* ---- the calls */
 
+static const struct input *next(int which)
+{
+    return &inputs[turn[which]++ & (prepared - 1)];
+}
+
 static void run_baseline(void)
 {
+    const struct table *t = &next(BASELINE)->table;
     answers[BASELINE].number =
-        baseline_table_verdicts(table.values, table.length, table.rows, table.columns, table.k, table.a, table.b,
-                                table.observed, table.work, table.places, answers[BASELINE].bytes, MOST_COLUMNS);
+        baseline_table_verdicts(t->values, t->length, t->rows, t->columns, t->k, t->a, t->b, t->observed, t->work,
+                                t->places, answers[BASELINE].bytes, MOST_COLUMNS);
 }
 
 static void run_library(void)
 {
-    answers[LIBRARY].number =
-        table_verdicts(table.values, table.length, table.rows, table.columns, table.k, table.a, table.b,
-                       table.observed, table.work, table.places, answers[LIBRARY].bytes, MOST_COLUMNS);
+    const struct table *t = &next(LIBRARY)->table;
+    answers[LIBRARY].number = table_verdicts(t->values, t->length, t->rows, t->columns, t->k, t->a, t->b, t->observed,
+                                             t->work, t->places, answers[LIBRARY].bytes, MOST_COLUMNS);
 }
 
 static void verdicts_baseline(void)
 {
-    answers[BASELINE].number = baseline_trial_verdicts(file, length, answers[BASELINE].bytes, MOST_OFFERS);
+    answers[BASELINE].number =
+        baseline_trial_verdicts(next(BASELINE)->file, LONGEST_FILE, answers[BASELINE].bytes, MOST_OFFERS);
 }
 
 static void verdicts_library(void)
 {
-    answers[LIBRARY].number = trial_verdicts(file, length, answers[LIBRARY].bytes, MOST_OFFERS);
+    answers[LIBRARY].number = trial_verdicts(next(LIBRARY)->file, LONGEST_FILE, answers[LIBRARY].bytes, MOST_OFFERS);
 }
 
 static void report_baseline(void)
 {
     struct answer *a = &answers[BASELINE];
-    if (report(file, length, (char *)a->bytes, LONGEST_REPORT, &a->number) != 0)
+    if (report(next(BASELINE)->file, LONGEST_FILE, (char *)a->bytes, LONGEST_REPORT, &a->number) != 0)
         fail("report refused", "baseline");
 }
 
 static void report_library(void)
 {
-    answers[LIBRARY].number = bench_report(file, length, answers[LIBRARY].bytes, LONGEST_REPORT);
+    answers[LIBRARY].number =
+        bench_report(next(LIBRARY)->file, LONGEST_FILE, answers[LIBRARY].bytes, LONGEST_REPORT);
 }
 
 static void read_baseline(void)
 {
-    answers[BASELINE].number = read_trial(file, length, &answers[BASELINE].trial);
+    answers[BASELINE].number = read_trial(next(BASELINE)->file, LONGEST_FILE, &answers[BASELINE].trial);
 }
 
 static void read_library(void)
 {
     struct answer *a = &answers[LIBRARY];
-    a->number = bench_read(file, length, a->figures, a->trial.codes, a->trial.digits, a->trial.differences);
+    a->number = bench_read(next(LIBRARY)->file, LONGEST_FILE, a->figures, a->trial.codes, a->trial.digits,
+                           a->trial.differences);
 }
 
 static void write_baseline(void)
 {
-    if (write_trial(&trial, answers[BASELINE].bytes, LONGEST_FILE, &answers[BASELINE].number) != 0)
+    struct answer *a = &answers[BASELINE];
+    if (write_trial(&next(BASELINE)->trial, a->bytes, LONGEST_FILE, &a->number) != 0)
         fail("writing refused", "baseline");
 }
 
 static void write_library(void)
 {
-    answers[LIBRARY].number = bench_write(figures, trial.codes, trial.digits, trial.differences,
+    const struct input *in = next(LIBRARY);
+    answers[LIBRARY].number = bench_write(in->figures, in->trial.codes, in->trial.digits, in->trial.differences,
                                           answers[LIBRARY].bytes, LONGEST_FILE);
 }
 
@@ -94,7 +112,7 @@ const call *calls_of(const struct task *task)
     return calls[task->kind];
 }
 
-/* ---- the input */
+/* ---- the inputs */
 
 static void figures_of(const struct trial *t, size_t out[FIGURES])
 {
@@ -102,19 +120,38 @@ static void figures_of(const struct trial *t, size_t out[FIGURES])
     memcpy(out, all, sizeof all);
 }
 
-void prepare(const struct task *task)
+static void make_file(const struct task *task, size_t number, struct input *in)
 {
-    free((void *)table.values);
-    free(table.work);
-    table = (struct table){0};
-    if (task->kind == RUN) {
-        make_table(&task->recipe, &table);
-        return;
-    }
-    make_trial(task->recipe.pattern, task->recipe.k, &trial);
-    figures_of(&trial, figures);
-    if (write_trial(&trial, file, sizeof file, &length) != 0 || length != LONGEST_FILE)
+    size_t length;
+    make_trial(task->recipe.pattern, task->recipe.k, number, &in->trial);
+    figures_of(&in->trial, in->figures);
+    if (write_trial(&in->trial, in->file, LONGEST_FILE, &length) != 0 || length != LONGEST_FILE)
         fail("not a largest file", task->name);
+}
+
+size_t inputs_of(const struct task *task)
+{
+    size_t values = task->recipe.rows * task->recipe.columns;
+    if (task->kind != RUN)
+        return FILES;
+    return VALUES / values < MOST_INPUTS ? VALUES / values : MOST_INPUTS;
+}
+
+void prepare(const struct task *task, size_t many)
+{
+    for (size_t i = 0; i < prepared; i++)
+        free((void *)inputs[i].table.values);
+    memset(inputs, 0, sizeof inputs);
+    memset(turn, 0, sizeof turn);
+    prepared = many;
+    for (size_t i = 0; i < many; i++) {
+        if (task->kind == RUN)
+            make_table(&task->recipe, i, &inputs[i].table);
+        else
+            make_file(task, i, &inputs[i]);
+        inputs[i].table.work = work;
+        inputs[i].table.places = MOST_ROWS;
+    }
 }
 
 /* ---- the comparison */
@@ -126,20 +163,20 @@ static void same(int holds, const struct task *task, const char *what)
 }
 
 /* All that a full run of a table answers, beyond its verdicts. */
-static struct facts compare_runs(const struct task *task)
+static struct facts compare_run(const struct task *task, const struct table *t)
 {
     struct full_run run;
     size_t steps, counts[MOST_COLUMNS];
     double criticals[MOST_COLUMNS];
-    same(run_table(&table, &run) == 0, task, "the baseline refuses the table");
-    uint32_t refusal = bench_table(table.values, table.length, table.rows, table.columns, table.k, table.a, table.b,
-                                   table.observed, table.work, table.places, &steps, criticals, counts);
+    static const double cleared[MOST_ROWS];
+    same(run_table(t, &run) == 0, task, "the baseline refuses the table");
+    uint32_t refusal = bench_table(t->values, t->length, t->rows, t->columns, t->k, t->a, t->b, t->observed, t->work,
+                                   t->places, &steps, criticals, counts);
     same(refusal == 0, task, "the library refuses the table");
     same(steps == run.steps, task, "steps differ");
     same(memcmp(criticals, run.critical, sizeof criticals) == 0, task, "critical values differ");
     same(memcmp(counts, run.count, sizeof counts) == 0, task, "counts differ");
-    for (size_t g = 0; g < table.rows; g++)
-        same(table.work[g] == 0, task, "the work buffer is not cleared");
+    same(memcmp(t->work, cleared, sizeof cleared) == 0, task, "the work buffer is not cleared");
     return (struct facts){run.steps, run.rejected, run.sets, {0, 0}};
 }
 
@@ -158,32 +195,30 @@ static void check_recipe(const struct task *task, const struct facts *facts)
 }
 
 /* What was read is the trial that the file was made of. */
-static void check_read(const struct task *task)
+static void check_read(const struct task *task, const struct input *in)
 {
-    const struct trial *t = &answers[BASELINE].trial, *l = &answers[LIBRARY].trial;
-    figures_of(t, answers[BASELINE].figures);
-    for (int i = 0; i < BOTH; i++)
-        same(memcmp(answers[i].figures, figures, sizeof figures) == 0, task, "figures differ");
-    same(memcmp(t, &trial, sizeof trial) == 0, task, "the baseline reads another trial");
-    same(memcmp(t->codes, l->codes, sizeof t->codes) == 0, task, "codes differ");
-    same(memcmp(t->digits, l->digits, sizeof t->digits) == 0, task, "digits differ");
-    same(memcmp(t->differences, l->differences, sizeof t->differences) == 0, task, "differences differ");
+    const struct trial *l = &answers[LIBRARY].trial;
+    same(memcmp(&answers[BASELINE].trial, &in->trial, sizeof in->trial) == 0, task, "the baseline reads another trial");
+    same(memcmp(answers[LIBRARY].figures, in->figures, sizeof in->figures) == 0, task, "figures differ");
+    same(memcmp(l->codes, in->trial.codes, sizeof l->codes) == 0, task, "codes differ");
+    same(memcmp(l->digits, in->trial.digits, sizeof l->digits) == 0, task, "digits differ");
+    same(memcmp(l->differences, in->trial.differences, sizeof l->differences) == 0, task, "differences differ");
 }
 
-static struct facts compare_files(const struct task *task)
+static struct facts compare_file(const struct task *task, const struct input *in)
 {
     struct full_run run;
     if (task->kind == READING)
-        check_read(task);
+        check_read(task, in);
     if (task->kind == WRITING)
-        same(memcmp(answers[LIBRARY].bytes, file, length) == 0, task, "another file is written");
+        same(memcmp(answers[LIBRARY].bytes, in->file, LONGEST_FILE) == 0, task, "another file is written");
     if (task->kind == READING || task->kind == WRITING)
         return (struct facts){0};
-    same(run_trial(&trial, &run) == 0, task, "the baseline refuses the trial");
+    same(run_trial(&in->trial, &run) == 0, task, "the baseline refuses the trial");
     return (struct facts){run.steps, run.rejected, run.sets, {0, 0}};
 }
 
-struct facts compare(const struct task *task)
+static struct facts compare_one(const struct task *task, const struct input *in)
 {
     size_t stack[BOTH];
     memset(answers, 0, sizeof answers);
@@ -191,9 +226,22 @@ struct facts compare(const struct task *task)
         stack[i] = stack_of(calls_of(task)[i]);
     same(answers[BASELINE].number == answers[LIBRARY].number, task, "results differ");
     same(memcmp(answers[BASELINE].bytes, answers[LIBRARY].bytes, LONGEST_REPORT) == 0, task, "bytes differ");
-    struct facts facts = task->kind == RUN ? compare_runs(task) : compare_files(task);
+    struct facts facts = task->kind == RUN ? compare_run(task, &in->table) : compare_file(task, in);
     if (task->kind == RUN)
         check_recipe(task, &facts);
     memcpy(facts.stack, stack, sizeof stack);
     return facts;
+}
+
+struct facts compare(const struct task *task)
+{
+    struct facts first = {0};
+    for (size_t i = 0; i < prepared; i++) {
+        struct facts facts = compare_one(task, &inputs[i]);
+        if (i == 0)
+            first = facts;
+        same(facts.steps == first.steps && facts.rejected == first.rejected && facts.sets == first.sets, task,
+             "inputs of one task differ in steps, rejections or sets");
+    }
+    return first;
 }

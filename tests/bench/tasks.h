@@ -25,18 +25,21 @@ struct task {
 /* The two implementations, where something is said of each. */
 enum { BASELINE, LIBRARY, BOTH };
 
-/* What the full run of the input did, and the bytes of stack that each call has used. */
+/* What the full run of an input did, the same for all of a task, and the bytes of stack that each call has used. */
 struct facts {
     size_t steps, rejected, sets, stack[BOTH];
 };
 
-/* Makes the input that the calls below work on. */
-void prepare(const struct task *task);
+/* How many different inputs of a task are called by turns: tables of 131,072 values together, and 16 files. */
+size_t inputs_of(const struct task *task);
+
+/* Makes so many inputs, which the calls below take by turns. */
+void prepare(const struct task *task, size_t many);
 
 /* The same call of the baseline and of the library. */
 const call *calls_of(const struct task *task);
 
-/* Compares all that both answer to the prepared input, and ends the program where it differs. */
+/* Compares all that both answer to the prepared inputs, and ends the program where it differs. */
 struct facts compare(const struct task *task);
 
 #endif
