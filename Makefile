@@ -3,7 +3,9 @@
 #               first, then `rt ci`, which proves every crate of crates.txt from nothing, tries the must-fail edits and runs
 #               the programs
 # make vectors  writes the files of the test program again: its cases, and the answers as the reference has them
-.PHONY: run test vectors
+# make host     builds the sample host in C: `target/host samples/w.trial` then prints the verdicts of a trial file
+# make bench    compares the library with the plain C of tests/baseline, gcc -O3 (docs/BENCHMARKS.md); `rt staticlib` compiles at -O3 too
+.PHONY: run test vectors host bench
 run:
 	@mkdir -p target
 	@rt check report > target/run.log 2>&1 || { cat target/run.log; exit 1; }
@@ -16,14 +18,10 @@ test:
 vectors:
 	@python3 tests/make_vectors.py
 
-# The sample host in C; then `target/host samples/w.trial` prints the verdicts of a trial file.
-.PHONY: host
 host:
 	@rt staticlib host
 	@gcc -Wall -Wextra -Werror -O2 -Iinclude samples/host.c target/staticlib/libhost.a -o target/host
 
-# The benchmark (docs/BENCHMARKS.md): the library, which `rt staticlib` compiles at -O3, against the plain C of tests/baseline, gcc -O3.
-.PHONY: bench
 bench:
 	@rt staticlib host
 	@rt staticlib benchcalls
