@@ -11,13 +11,14 @@ use mathlib.Core.Bool.{Bool, true, false, cond, true≢false, false≢true}
 use mathlib.Core.List.{List, [], _∷_, map}
 use lib.ListN.{length, getD, length-map, List·getD-append}
 use lib.Dec.{eqb}
-use borrow.Author.Tests.{eq-eqb, ne-eqb}
+use borrow.Author.Tests.{ne-eqb}
 use Rattle.stepdown.specs.Refusals.{Checks, firstRefusal}
 use Rattle.stepdown.specs.Runs.{Outcome}
 use Rattle.stepdown.specs.Answers.{judgedAs, blankRun, acceptedRun}
 use Rattle.stepdown.specs.declared.Verdict.{Verdict}
 use Rattle.stepdown.specs.declared.Judged.{Judged}
 use Rattle.stepdown.specs.declared.FullRun.{FullRun}
+use Rattle.stepdown.proofs.Refusals.{given-refused, given-done}
 use Rattle.stepdown.proofs.Accepted.{NoneHolds}
 use Rattle.claims.specs.Firsts.{condition, number, FirstAt, First}
 
@@ -60,10 +61,10 @@ none-each (c ∷ cs) h zero = h .0
 none-each (c ∷ cs) h (suc i) = none-each cs (h .1) i
 
 pub kept : {A : Type 0} (n : ℕ) (new old : A) → (n ≡ 0 → ⊥) → cond (eqb n 0) new old ≡ old
-kept n new old h = ap (λ (b : Bool). cond b new old) (ne-eqb n 0 h)
+kept n new old h = sym (given-refused n n refl new (λ _. old) h)
 
 pub taken : {A : Type 0} (n : ℕ) (new old : A) → n ≡ 0 → cond (eqb n 0) new old ≡ new
-taken n new old h = ap (λ (b : Bool). cond b new old) (eq-eqb n 0 h)
+taken n new old h = sym (given-done n n refl new (λ _. old) h)
 
 -- a full run tells the number that refuses it
 pub told-number : (n : ℕ) (r : FullRun) → r .refusal ≡ 0 → (cond (eqb n 0) r (blankRun n)) .refusal ≡ n
