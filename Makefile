@@ -1,7 +1,7 @@
 # make run      proves and builds the report program, and prints the report of samples/w.trial
-# make test     the one test command: the reference implementation, the tools, the C calls and the files of the test program
-#               first, then `rt ci`, which proves every crate of crates.txt from nothing, tries the must-fail edits and runs
-#               the programs
+# make test     the one test command: `rt ci`, which proves every crate of crates.txt from nothing, tries the must-fail edits
+#               and runs the programs; then, on what it has proved, the Python tests: the reference implementation, the tools,
+#               the C calls and the files of the test program
 # make vectors  writes the files of the test program again: its cases, and the answers as the reference has them
 # make host     builds the sample host in C: `target/host samples/w.trial` then prints the verdicts of a trial file
 # make bench    compares the library with the plain C of tests/baseline, gcc -O3 (docs/BENCHMARKS.md); `rt staticlib` compiles at -O3 too
@@ -12,8 +12,7 @@ run:
 	@target/bin/report < samples/w.trial
 
 test:
-	@python3 -m unittest discover -s tests
-	@rt ci
+	@tests/run.sh
 
 vectors:
 	@python3 tests/make_vectors.py

@@ -1,30 +1,38 @@
 """The text that the test program, crates/vectors, has to print for a case, as the reference has it.
 
-A value is the 16 hexadecimal digits of its bits without the zeros at the end (4.0 is 401, minus
-zero is 8). A lent buffer of f64 is printed in full up to 16 places; a longer one, one of bytes, and
-text of more bytes than it may have, stand as #LENGTH:CHECKSUM, Adler-32. In a list the blank places
-are left out, and a place after them is told by its number, as @3:5. A report is printed as it is.
+Each answer is a line: a name, then numbers in hexadecimal. A line has room for so many; those beyond
+stand as a checksum, #SUM. A value is the number that frames.py makes of it (4.0 is 401000, minus
+zero is 800000). Lent buffers are told whole. A report is printed as it is, after its line.
 """
 
-import struct
-import zlib
 from functools import singledispatch
 
 from expected import expected
-from generators.kinds import BeginCase, FileCase, RecordCase, StepCase, TableCase, WalkCase
+from frames import value_number
+from generators.kinds import FileCase, LookCase, RecordCase, StepCase, TableCase, WalkCase
 from reference.method import Record
 from reference.refusals import Refused
 from reference.table import Kept, Rejected
 from reference.trial import Trial
+from reference.view import OUTSIDE
 
 PLACES = 32  # of the lists of a full run
 BLANK_TRIAL = Trial(0, 0, 0, 0, 0, (0,) * 16, (0,) * 16, (0,) * 144)
-BLANK_RECORD, BLANK_VERDICT = Record(0, 0.0), Kept(0.0)
+PRIME = 2 ** 31 - 1
+
+
+def line(name: str, room: int, *numbers) -> str:
+    """A line of the output."""
+    printed = "".join(f" {number:x}" for number in numbers[:room])
+    total = 0
+    for number in numbers[room:]:
+        total = (total * 65_599 + number % PRIME + 1) % PRIME
+    return name + printed + f" #{total:x}" * (total > 0) + "\n"
 
 
 def seed_text(seed: int) -> str:
     """What the first frame prints."""
-    return f"seed {seed}\n"
+    return line("seed", 1, seed)
 
 
 @singledispatch
@@ -37,14 +45,12 @@ def text(case) -> str:
 def _(case: FileCase) -> str:
     answers = expected(case)
     trial = answers["read"]
-    number = number_of(trial)
-    printed = trial_text(BLANK_TRIAL if number else trial)
+    told = trial_numbers(BLANK_TRIAL if isinstance(trial, Refused) else trial)
     report, buffer = answers["report"]
     length = 0 if number_of(report) else len(report)
-    return (f"read {number}{printed}\n"
-            f"run{folded(printed, 0)}{folded(run_text(answers['full_run']), 0)}\n"
-            f"report {number_of(report)} {length}{checksum(buffer, len(buffer))}\n"
-            + buffer[:length].decode())
+    return (line("read", 24, number_of(trial), *told)
+            + line("run", 0, *run_numbers(answers["full_run"]), *told)
+            + line("report", 2, number_of(report), length, *buffer) + buffer[:length].decode())
 
 
 @text.register
@@ -54,36 +60,36 @@ def _(case: RecordCase) -> str:
     made, cells = answers["table"]
     ran, run_cells, work = answers["full_run"]
     length = 0 if number_of(written) else len(written)
-    return (f"check {answers['check']}\n"
-            f"write {number_of(written)} {length}{checksum(data, len(data))}\n"
-            f"table {number_of(made)};{values_text(cells)}\n"
-            f"run{run_text(ran)};{values_text(run_cells)};{values_text(work)}\n")
+    return (line("check", 1, answers["check"])
+            + line("write", 2, number_of(written), length, *data)
+            + line("table", 16, number_of(made), *values_numbers(cells))
+            + line("run", 24, *run_numbers(ran), *values_numbers(work), *values_numbers(run_cells)))
 
 
 @text.register
 def _(case: TableCase) -> str:
     ran, work = expected(case)["full_run"]
-    return f"run{run_text(ran)};{values_text(work)}\n"
-
-
-@text.register
-def _(case: BeginCase) -> str:
-    return begin_text(expected(case)["begin"])
-
-
-@text.register
-def _(case: StepCase) -> str:
-    answer, work = expected(case)["step"]
-    return step_text(answer) + work_text(work)
+    return line("run", 24, *run_numbers(ran), *values_numbers(work))
 
 
 @text.register
 def _(case: WalkCase) -> str:
     answers = expected(case)
-    begun, (steps, work) = answers["begin"], answers["steps"]
+    begun = answers["begin"]
     if isinstance(begun, Refused):
-        return begin_text(begun)
-    return begin_text(begun) + "".join(map(step_text, steps)) + work_text(work)
+        return line("begin", 1, begun.number)
+    return line("begin", 10, 0, *figures(begun)) + steps_text(answers["steps"])
+
+
+@text.register
+def _(case: StepCase) -> str:
+    return steps_text(expected(case)["steps"])
+
+
+@text.register
+def _(case: LookCase) -> str:
+    found = expected(case)["look"]
+    return line("look", 1, 0) if found is OUTSIDE else line("look", 2, 1, value_number(found))
 
 
 def number_of(answer) -> int:
@@ -91,100 +97,59 @@ def number_of(answer) -> int:
     return answer.number if isinstance(answer, Refused) else 0
 
 
-def begin_text(answer) -> str:
-    if isinstance(answer, Refused):
-        return f"begin refused {answer.number}\n"
-    return f"begin{figures_text(answer)}\n"
+def steps_text(answer) -> str:
+    """A line for each step, and one for the work buffer."""
+    steps, work = answer
+    return "".join(map(step_text, steps)) + line("work", 16, len(work), *values_numbers(work))
 
 
 def step_text(answer) -> str:
     if isinstance(answer, Refused):
-        return f"step refused {answer.number}\n"
+        return line("step", 1, answer.number)
     run, record = answer
-    return f"step {record_text(record)}{figures_text(run)}\n"
+    return line("step", 12, 0, *record_numbers(record), *figures(run))
 
 
-def work_text(work) -> str:
-    return f"work{values_text(work)}\n"
-
-
-def figures_text(run) -> str:
+def figures(run) -> tuple:
     """A run: its figures, its rejected set, its steps, whether it has ended."""
-    figures = (run.rows, run.columns, run.k, run.a, run.b, run.observed, run.rejected, run.steps)
-    return "".join(f" {figure}" for figure in figures) + " ended" * run.ended
+    return (run.rows, run.columns, run.k, run.a, run.b, run.observed, run.rejected, run.steps,
+            run.ended)
 
 
-def trial_text(trial: Trial) -> str:
-    """Level, k, offers, pairs; codes; printed digits; differences."""
-    figures = (trial.a, trial.b, trial.k, trial.offers, trial.pairs)
-    listed = [list_text(places) for places in (trial.codes, trial.digits, trial.differences)]
-    return ("".join(f" {figure}" for figure in figures)
-            + f" ;{listed[0]} ;{listed[1]} ;{folded(listed[2], 200)}")
+def trial_numbers(trial: Trial) -> list:
+    """Level, k, offers, pairs; each code and its printed digits; the differences, 2^31 added."""
+    return [trial.a, trial.b, trial.k, trial.offers, trial.pairs,
+            *(n for offer in zip(trial.codes, trial.digits) for n in offer),
+            *(d + 2 ** 31 for d in trial.differences)]
 
 
-def run_text(answer) -> str:
-    """A full run: refusal, steps, how many are rejected; then its places."""
+def run_numbers(answer) -> list:
+    """A full run: refusal, steps, how many are rejected; then each place of its lists."""
     if isinstance(answer, Refused):
-        return f" {answer.number} 0 0"
-    records = padded(answer.records, BLANK_RECORD)
-    verdicts = padded(answer.verdicts, BLANK_VERDICT)
-    counts = padded(answer.counts, 0)
-    places = [place_text(*place) for place in zip(records, verdicts, counts)]
-    return f" 0 {len(answer.records)} {answer.rejected()}{list_text(places)}"
+        records, verdicts, counts, rejected = (), (), (), 0
+    else:
+        records, verdicts, counts = answer.records, answer.verdicts, answer.counts
+        rejected = answer.rejected()
+    places = zip(padded(records, Record(0, 0.0)), padded(verdicts, Kept(0.0)), padded(counts, 0))
+    return [number_of(answer), len(records), rejected,
+            *(number for record, verdict, count in places
+              for number in (*record_numbers(record), *verdict_numbers(verdict), count))]
 
 
 def padded(places, blank) -> list:
     return list(places) + [blank] * (PLACES - len(places))
 
 
-def place_text(record, verdict, count) -> str:
-    """Record, verdict, count, and the rejecting step or 0; empty where the place is blank."""
-    blank = same(record, BLANK_RECORD)
-    if blank and same(verdict, BLANK_VERDICT) and count == 0:
-        return ""
+def record_numbers(record) -> tuple:
+    """The step and its critical value."""
+    return record.step, value_number(record.critical_value)
+
+
+def verdict_numbers(verdict) -> tuple:
+    """The rejecting step or 0, twice, since the program asks in two ways; the critical value."""
     step = verdict.step if isinstance(verdict, Rejected) else 0
-    return f"{'-' if blank else record_text(record)}/{verdict_text(verdict)}/{count}/{step}"
+    return step, step, value_number(verdict.critical_value)
 
 
-def same(one, other) -> bool:
-    """Equal, with zeros of both signs told apart."""
-    return repr(one) == repr(other)
-
-
-def record_text(record) -> str:
-    return f"{record.step}:{value_text(record.critical_value)}"
-
-
-def verdict_text(verdict) -> str:
-    step = f"r{verdict.step}" if isinstance(verdict, Rejected) else "k"
-    return f"{step}:{value_text(verdict.critical_value)}"
-
-
-def list_text(places) -> str:
-    """The places that are not blank, each with its number where blank ones came before."""
-    parts, gap = [], False
-    for number, place in enumerate(places):
-        if place:
-            parts.append(f" @{number}:{place}" if gap else f" {place}")
-        gap = not place
-    return "".join(parts)
-
-
-def value_text(value: float) -> str:
-    return struct.pack(">d", value).hex().rstrip("0") or "0"
-
-
-def values_text(values) -> str:
-    """A lent buffer of f64."""
-    if len(values) <= 16:
-        return "".join(f" {value_text(value)}" for value in values)
-    return checksum(struct.pack(f"<{len(values)}d", *values), len(values))
-
-
-def folded(printed: str, most: int) -> str:
-    """The text itself, or its checksum where it has more bytes."""
-    return printed if len(printed) <= most else checksum(printed.encode(), len(printed))
-
-
-def checksum(data: bytes, places: int) -> str:
-    return f" #{places}:{zlib.adler32(data)}"
+def values_numbers(values) -> list:
+    return list(map(value_number, values))

@@ -1,16 +1,18 @@
 """Test cases, generated from a fixed seed: the same cases, in the same order, each time.
 
-Each family draws from a stream of its own, so that one can grow without moving
-the others. `all_cases()` yields every case; names are unique.
+Each family draws from a stream of its own, so that one can grow without moving the others. Names
+are unique. `all_cases()` yields those that are stored for the test program; `every_case_of` adds
+those that only the tests from C take, which store nothing.
 """
 
 import random
 
 from generators.examples import example_cases
-from generators.files import file_cases
+from generators.files import file_cases, further_file_cases
 from generators.records import record_cases
 from generators.runs import step_cases, walk_cases
-from generators.tables import begin_cases, table_cases
+from generators.tables import further_table_cases, table_cases
+from generators.views import look_cases
 
 SEED = 20_260_101
 
@@ -19,23 +21,32 @@ FAMILIES = {
     "file": file_cases,
     "record": record_cases,
     "table": table_cases,
-    "begin": begin_cases,
     "step": step_cases,
     "walk": walk_cases,
+    "look": look_cases,
 }
+FURTHER = {"file": further_file_cases, "table": further_table_cases}
 
 
 def cases_of(family: str):
-    """The cases of one family, in order."""
+    """The stored cases of one family, in order."""
     return FAMILIES[family](random.Random(f"{SEED}/{family}"))
 
 
+def every_case_of(family: str):
+    """The cases of one family, then those that are not stored."""
+    yield from cases_of(family)
+    if family in FURTHER:
+        yield from FURTHER[family](random.Random(f"{SEED}/further/{family}"))
+
+
 def all_cases():
-    """Every case, family by family."""
+    """Every stored case, family by family."""
     for family in FAMILIES:
         yield from cases_of(family)
 
 
 if __name__ == "__main__":
     for family in FAMILIES:
-        print(family, sum(1 for _ in cases_of(family)))
+        stored = sum(1 for _ in cases_of(family))
+        print(family, stored, sum(1 for _ in every_case_of(family)) - stored)

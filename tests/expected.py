@@ -2,8 +2,8 @@
 
 from functools import singledispatch
 
-from generators.kinds import BeginCase, FileCase, RecordCase, StepCase, TableCase, WalkCase
-from reference import ccall, report, run, table, trial, trialfile
+from generators.kinds import FileCase, LookCase, RecordCase, StepCase, TableCase, WalkCase
+from reference import ccall, report, run, table, trial, trialfile, view
 from reference.refusals import Refused
 
 MARK = 7  # what each place of a lent buffer holds before the call
@@ -47,21 +47,24 @@ def _(case: TableCase) -> dict:
 
 @expected.register
 def _(case: WalkCase) -> dict:
-    work = [float(MARK)] * case.work_room
     begun = run.begin(case.rows, case.columns, case.k, case.a, case.b, case.observed)
-    steps, now = [], begun
-    while not isinstance(now, Refused):
-        steps.append(run.step(now, case.values, work))
-        now = steps[-1] if isinstance(steps[-1], Refused) else steps[-1][0]
-    return {"begin": begun, "steps": (steps, work)}
-
-
-@expected.register
-def _(case: BeginCase) -> dict:
-    return {"begin": run.begin(case.rows, case.columns, case.k, case.a, case.b, case.observed)}
+    return {"begin": begun, "steps": steps(begun, case)}
 
 
 @expected.register
 def _(case: StepCase) -> dict:
-    work = [float(MARK)] * case.work_room
-    return {"step": (run.step(case.run, case.values, work), work)}
+    return {"steps": steps(case.run, case)}
+
+
+@expected.register
+def _(case: LookCase) -> dict:
+    return {"look": view.entry(case.values, case.rows, case.columns, case.row, case.column)}
+
+
+def steps(now, case) -> tuple:
+    """The answers to steps until one is refused, and the work buffer; none if nothing was begun."""
+    answers, work = [], [float(MARK)] * case.work_room
+    while not isinstance(now, Refused):
+        answers.append(run.step(now, case.values, work))
+        now = answers[-1] if isinstance(answers[-1], Refused) else answers[-1][0]
+    return answers, work

@@ -1,47 +1,64 @@
 """Cases as frames for the test program, crates/vectors.
 
-A frame is its kind and the length of its body (4 bytes each), then the body.
-Numbers are little-endian and have 8 bytes where nothing else is said:
+A frame is numbers, each a byte that tells how many bytes follow and then those, the highest first:
+the kind; the rooms of the byte buffer, the table and the work buffer that are lent; then
 
-kind 0  the seed
-kind 1  a file: the room of the report's buffer, then the file's bytes
-kind 2  a record: the rooms of file, table and work buffer; a, b, k, offers, pairs;
-        16 codes (4 bytes each), 16 printed digits (a byte each), 144 differences (4 bytes each)
-kind 3  a table; kind 5 a step; kind 6 a run by steps: rows, columns, k, a, b, observed, the
-        room of the work buffer, the length of the table, how many bytes of values repeat, the place
-        from which others are laid over them; rejected, steps, ended (of a step's run); then
-        the written values, which repeat where the table is longer, and the laid ones
-kind 4  a beginning: rows, columns, k, a, b, observed
+kind 1  the seed
+kind 2  a file: its length, then its bytes as they are
+kind 3  a record: 16 times a code and its printed digits; a, b, k, offers, pairs; how many
+        differences are told (the others are zero) and those, each with 2^31 added;
+        what the table holds before the table call, and before the full run
+kind 4  a full run of a table; kind 5 a beginning; kind 6 the steps of a run as it is given: the
+        table; rows, columns, k, a, b, observed, rejected, steps, ended; 1 for a view, else 0
+kind 7  a place: the table; rows, columns, row, column
 
-A byte that is missing at the end of a body counts as zero, except in a file. A value that is no
-number reaches the engine as zero divided by zero, whatever its bits: the program's language makes
-none from bits.
+A table is how many of its values are told, the period, and those values; each later one is the one
+that stands a period before. A value is its bits, the first 24 of them put last, so that small whole
+values have few bytes. One that is no number reaches the engine as zero divided by zero, whatever
+its bits: the program's language makes none from bits.
 """
 
 import struct
 from functools import singledispatch
 
-from generators.kinds import (BeginCase, FileCase, RecordCase, Repeated, StepCase, TableCase,
+from expected import MARK, expected
+from generators.kinds import (FileCase, LookCase, RecordCase, Repeated, StepCase, TableCase,
                               WalkCase)
+from reference.refusals import Refused
+from reference.run import Run
 
-LONGEST_BODY = 65_536
-
-
-def framed(kind: int, body: bytes) -> bytes:
-    """The frame of a body."""
-    if len(body) > LONGEST_BODY:
-        raise ValueError(f"a body of {len(body)} bytes")
-    return struct.pack("<II", kind, len(body)) + body
+LONGEST_FILE, LONGEST_BUFFER, LARGEST_TABLE, LARGEST_WORK = 2048, 3072, 4096 * 33, 4104
 
 
 def numbers(*values) -> bytes:
-    """Numbers of 8 bytes each."""
-    return struct.pack(f"<{len(values)}Q", *values)
+    """Numbers, each with its length."""
+    return b"".join(bytes([length]) + value.to_bytes(length, "big") for value, length
+                    in ((value, (int(value).bit_length() + 7) // 8) for value in map(int, values)))
+
+
+def value_number(value: float) -> int:
+    """A value as a number."""
+    bits = int.from_bytes(struct.pack(">d", value), "big") if value == value else 0x7FF8 << 48
+    return bits % 2 ** 40 << 24 | bits >> 40
+
+
+def lent(kind: int, bytes_room=0, table_room=0, work_room=0) -> bytes:
+    """The start of a frame."""
+    if bytes_room > LONGEST_BUFFER or table_room > LARGEST_TABLE or work_room > LARGEST_WORK:
+        raise ValueError(f"rooms of {bytes_room}, {table_room}, {work_room}")
+    return numbers(kind, bytes_room, table_room, work_room)
+
+
+def table(values) -> bytes:
+    """What a lent table holds."""
+    told, period = ((values.written, values.period) if isinstance(values, Repeated)
+                    else (values, 0))
+    return numbers(len(told), period, *map(value_number, told))
 
 
 def seed_frame(seed: int) -> bytes:
     """The first frame: the seed of the generated cases."""
-    return framed(0, numbers(seed))
+    return lent(1) + numbers(seed)
 
 
 @singledispatch
@@ -52,50 +69,49 @@ def frame(case) -> bytes:
 
 @frame.register
 def _(case: FileCase) -> bytes:
-    return framed(1, numbers(case.report_room) + case.data)
+    if len(case.data) > LONGEST_FILE:
+        raise ValueError(f"a file of {len(case.data)} bytes")
+    return lent(2, case.report_room) + numbers(len(case.data)) + case.data
 
 
 @frame.register
 def _(case: RecordCase) -> bytes:
     t = case.trial
-    figures = numbers(case.file_room, case.table_room, case.work_room,
-                      t.a, t.b, t.k, t.offers, t.pairs)
-    lists = struct.pack("<16I16B144i", *t.codes, *t.digits, *t.differences)
-    return framed(2, (figures + lists).rstrip(b"\0"))
-
-
-@frame.register
-def _(case: BeginCase) -> bytes:
-    return framed(4, numbers(*figures_of(case)))
+    told = max((i + 1 for i, d in enumerate(t.differences) if d), default=0)
+    marks = table(Repeated((), (float(MARK),), case.table_room))
+    return (lent(3, case.file_room, case.table_room, case.work_room)
+            + numbers(*(n for offer in zip(t.codes, t.digits) for n in offer))
+            + numbers(t.a, t.b, t.k, t.offers, t.pairs)
+            + numbers(told, *(d + 2 ** 31 for d in t.differences[:told])) + 2 * marks)
 
 
 @frame.register
 def _(case: TableCase) -> bytes:
-    return framed(3, table_body(case, case, (0, 0, 0)))
+    return over_table(4, case.values, case.work_room, case.viewed, case)
 
 
 @frame.register
 def _(case: WalkCase) -> bytes:
-    return framed(6, table_body(case, case, (0, 0, 0)))
+    asked = over_table(5, (), 0, case.viewed, case)
+    begun = expected(case)["begin"]
+    if isinstance(begun, Refused):
+        return asked
+    return asked + over_table(6, case.values, case.work_room, case.viewed, begun)
 
 
 @frame.register
 def _(case: StepCase) -> bytes:
-    run = case.run
-    return framed(5, table_body(case, run, (run.rejected, run.steps, run.ended)))
+    return over_table(6, case.values, case.work_room, case.viewed, case.run)
 
 
-def figures_of(holder) -> tuple:
-    """The figures that a run is begun from, of a case or a run."""
-    return (holder.rows, holder.columns, holder.k, holder.a, holder.b, holder.observed)
+@frame.register
+def _(case: LookCase) -> bytes:
+    return (lent(7, table_room=len(case.values)) + table(case.values)
+            + numbers(case.rows, case.columns, case.row, case.column))
 
 
-def table_body(case, holder, state) -> bytes:
-    """The body of a case with a lent table."""
-    values = case.values
-    if not isinstance(values, Repeated):
-        values = Repeated(values or (0.0,), len(values))
-    cells = (*values.written, *values.laid)
-    return (numbers(*figures_of(holder), case.work_room, len(values), 8 * len(values.written),
-                    values.place, *state)
-            + struct.pack(f"<{len(cells)}d", *cells))
+def over_table(kind, values, work_room, viewed, run) -> bytes:
+    """A case with a lent table, and a run or what has its figures."""
+    state = (run.rejected, run.steps, run.ended) if isinstance(run, Run) else (0, 0, 0)
+    return (lent(kind, table_room=len(values), work_room=work_room) + table(values)
+            + numbers(run.rows, run.columns, run.k, run.a, run.b, run.observed, *state, viewed))

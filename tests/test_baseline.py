@@ -11,7 +11,7 @@ from ctypes import (CDLL, POINTER, Structure, byref, c_double, c_int32, c_size_t
                     c_uint32)
 from pathlib import Path
 
-from cases import cases_of
+from cases import cases_of, every_case_of
 from expected import MARK
 from reference import ccall, report, table, trialfile
 from reference.refusals import Refused
@@ -119,7 +119,7 @@ class Tables(unittest.TestCase):
 
     def test_full_runs(self):
         seen = set()
-        for case in cases_of("table"):
+        for case in every_case_of("table"):
             work = [float(MARK)] * case.work_room
             answer = table.full_run(case.values, case.rows, case.columns, case.k, case.a, case.b,
                                     case.observed, work)
@@ -129,7 +129,7 @@ class Tables(unittest.TestCase):
         self.assertEqual(seen, {0, 3, 4, 9, 10, 11, 12})
 
     def test_verdicts(self):
-        for case in cases_of("table"):
+        for case in every_case_of("table"):
             if len(case.values) > 4096:
                 continue
             for room in {0, min(case.columns, 40)}:
@@ -151,7 +151,7 @@ class Files(unittest.TestCase):
     def test_reading(self):
         seen = set()
         blank = CTrial().trial()
-        for case in cases_of("file"):
+        for case in every_case_of("file"):
             trial = CTrial()
             refusal = baseline.read_trial(case.data, c_size_t(len(case.data)), byref(trial))
             answer = trialfile.read(case.data)
@@ -162,7 +162,7 @@ class Files(unittest.TestCase):
 
     def test_reports_and_verdicts(self):
         guard = bytes([MARK]) * GUARD
-        for case in cases_of("file"):
+        for case in every_case_of("file"):
             text = report.report(case.data).encode()
             n = len(text)
             self.assertEqual(self.report(case.data, n), (0, n, text + guard), case.name)

@@ -3,7 +3,7 @@
 import unittest
 from collections import Counter
 
-from cases import FAMILIES, all_cases, cases_of
+from cases import FAMILIES, cases_of, every_case_of
 from expected import expected
 from reference.refusals import Refused
 from reference.trialfile import read
@@ -12,37 +12,39 @@ from reference.trialfile import read
 REFUSALS = {
     "record": {3, 4, 5, 6, 7, 12},
     "table": {3, 4, 9, 10, 11, 12},
-    "begin": {3, 4, 10},
     "step": {9, 11, 12, 13, 14},
+    "walk": {3, 4, 9, 10, 11, 12, 13},
 }
 
 
-def refusal(answer):
-    """The refusal number of a call's answer, its lent places left aside; 0 if accepted."""
+def refusals(answer) -> set:
+    """The refusal number of an answer, or of each step's, lent places left aside; 0 if accepted."""
     result = answer[0] if isinstance(answer, tuple) else answer
-    return result.number if isinstance(result, Refused) else 0
+    results = result if isinstance(result, list) else [result]
+    return {one.number if isinstance(one, Refused) else 0 for one in results}
 
 
 class Cases(unittest.TestCase):
     def test_names_differ(self):
-        counts = Counter(case.name for case in all_cases())
+        counts = Counter(case.name for family in FAMILIES for case in every_case_of(family))
         self.assertEqual([name for name in counts if counts[name] > 1], [])
 
     def test_same_each_time(self):
         for family in FAMILIES:
             # Compared as text, since a value that is no number differs from itself.
-            first, again = (repr(list(cases_of(family))) for _ in range(2))
+            first, again = (repr(list(every_case_of(family))) for _ in range(2))
             self.assertEqual(first, again)
 
     def test_enough_trials(self):
-        found = Counter(refusal(read(case.data)) for case in cases_of("file"))
+        found = Counter(number for case in every_case_of("file")
+                        for number in refusals(read(case.data)))
         self.assertGreaterEqual(found[0], 2000)
         self.assertEqual(set(found), set(range(9)))
 
     def test_every_refusal(self):
         for family, numbers in REFUSALS.items():
-            found = {refusal(answer) for case in cases_of(family)
-                     for answer in expected(case).values()}
+            found = {number for case in cases_of(family)
+                     for answer in expected(case).values() for number in refusals(answer)}
             self.assertEqual(found, numbers | {0}, family)
 
 

@@ -11,8 +11,9 @@ import unittest
 from dataclasses import dataclass
 from pathlib import Path
 
-from cases import cases_of
+from cases import every_case_of
 from expected import MARK
+from generators.kinds import TableCase
 from reference import ccall
 from reference.refusals import Refused
 from reference.table import Rejected
@@ -83,31 +84,57 @@ def file_call(case, room: int) -> Call:
 
 def file_calls():
     """Every file case, with buffers too short, exact and longer."""
-    for case in cases_of("file"):
+    for case in every_case_of("file"):
         trial = read(case.data)
         rooms = {0, 16} if isinstance(trial, Refused) else {trial.offers - 1, trial.offers}
         for room in sorted(rooms | {case.buffer_room}):
             yield file_call(case, room)
 
 
-def table_call(case, room: int) -> Call:
-    """A table case with a verdict buffer of so many bytes."""
+def table_call(case, room: int, values=None) -> Call:
+    """A table case with a verdict buffer of so many bytes; `values` are its values as bytes."""
     figures = (case.rows, case.columns, case.k, case.a, case.b, case.observed)
     work, buffer = [float(MARK)] * case.work_room, bytearray([MARK]) * room
     result = ccall.table_verdicts(case.values, *figures, work, buffer)
     places = struct.pack(f"<{len(work) + GUARD}d", *work, *[float(MARK)] * GUARD)
     return Call(f"{case.name}, buffer of {room}",
                 b"T" + struct.pack("<9Q", len(case.values), *figures, case.work_room, room)
-                + struct.pack(f"<{len(case.values)}d", *case.values),
+                + (values or struct.pack(f"<{len(case.values)}d", *case.values)),
                 struct.pack("<I", result) + places + buffer + bytes([MARK]) * GUARD)
 
 
 def table_calls():
     """Every table case, with verdict buffers too short, exact and longer."""
-    for case in cases_of("table"):
+    for case in every_case_of("table"):
         needed = min(case.columns, 40)
         for room in sorted({0, max(needed, 1) - 1, needed, needed + 3}):
             yield table_call(case, room)
+
+
+# Bits of what is no finite number: the two infinities; signalling and quiet patterns of either sign,
+# with the least and the greatest payload and some between.
+INFINITE = (0x7FF0_0000_0000_0000, 0xFFF0_0000_0000_0000)
+SIGNALLING = tuple(sign << 63 | 0x7FF << 52 | payload for sign in (0, 1)
+                   for payload in (1, 2, 0x1234_5678_9ABC, 1 << 50, (1 << 51) - 1))
+QUIET = tuple(bits | 1 << 51 for bits in (*INFINITE, *SIGNALLING))
+# The largest finite value of either sign, next to these.
+LARGEST = (0x7FEF_FFFF_FFFF_FFFF, 0xFFEF_FFFF_FFFF_FFFF)
+
+
+def pattern_calls(patterns):
+    """Each pattern in each place of a small table, and in some places of the largest one."""
+    for bits in patterns:
+        bad = struct.pack("<Q", bits)
+        value, = struct.unpack("<d", bad)
+        for rows, columns, places in ((3, 2, range(6)), (4096, 32, (0, 65_537, 4096 * 32 - 1))):
+            for place in places:
+                cells = [float(i % 5) for i in range(rows * columns)]
+                data = struct.pack(f"<{len(cells)}d", *cells)
+                data = data[:8 * place] + bad + data[8 * place + 8:]
+                cells[place] = value
+                case = TableCase(f"{bits:x} at {place} of {rows}x{columns}", tuple(cells), rows,
+                                 columns, 2, 1, 4, 0, rows)
+                yield table_call(case, columns, data)
 
 
 class Driver(unittest.TestCase):
@@ -133,6 +160,16 @@ class Driver(unittest.TestCase):
         results = {struct.unpack("<I", call.answer[:4])[0] for call in calls}
         self.assertGreaterEqual(results, {*range(13), 32, 103, 104, 109, 110, 111, 112})
         self.compare(calls, TABLE_STACK)
+
+
+    def test_patterns(self):
+        """What is no finite number is refused by 11, whatever its bits and its place."""
+        for patterns, refusal in ((INFINITE, True), (SIGNALLING, True), (QUIET, True),
+                                  (LARGEST, False)):
+            calls = list(pattern_calls(patterns))
+            results = {struct.unpack("<I", call.answer[:4])[0] for call in calls}
+            self.assertEqual(results == {111}, refusal)
+            self.compare(calls, TABLE_STACK)
 
 
 def sample_lines(data: bytes) -> str:

@@ -48,7 +48,7 @@ class Samples(unittest.TestCase):
 
 class Inputs(unittest.TestCase):
     def test_generated_files(self):
-        for case in itertools.islice(cases.cases_of("file"), 0, None, 25):
+        for case in itertools.islice(cases.every_case_of("file"), 0, None, 25):
             self.assertEqual(printed(case.data), report(case.data), case.name)
 
     def test_nothing(self):

@@ -8,16 +8,17 @@ import unittest
 from collections import Counter
 from itertools import combinations
 
-from cases import SEED, all_cases
+from cases import SEED, all_cases, every_case_of
 from expected import expected
 from generators import files, records
-from generators.kinds import BeginCase, FileCase, RecordCase, StepCase, TableCase, WalkCase
+from generators.kinds import FileCase, LookCase, RecordCase, StepCase, TableCase, WalkCase
 from make_vectors import CRATE, files as made_files
 from reference.refusals import Refused, breaks_3, table_breaks_4
 from reference.report import report
 from reference.run import CLAUSES_OF_14, clauses_broken
 from reference.trial import full_run, trial_refusal
 from reference.trialfile import bytes_of, read, words_of, write
+from reference.view import OUTSIDE
 
 
 def number_of(answer) -> int:
@@ -52,11 +53,10 @@ class Stored(unittest.TestCase):
                             f"crates/vectors/{name} differs: python3 tests/make_vectors.py")
 
     def test_small(self):
-        self.assertLess(len(self.made["stdin"]), 4_000_000)
-        self.assertLess(len(self.made["stdout"]), 2_000_000)
+        self.assertLess(len(self.made["stdin"]) + len(self.made["stdout"]), 1_500_000)
 
     def test_seed(self):
-        self.assertTrue(self.made["stdout"].startswith(f"seed {SEED}\n".encode()))
+        self.assertTrue(self.made["stdout"].startswith(f"seed {SEED:x}\n".encode()))
 
 
 class Covered(unittest.TestCase):
@@ -70,28 +70,29 @@ class Covered(unittest.TestCase):
         return [case for case in self.cases.values() if type(case) is kind]
 
     def orders(self, kind, broken, answer, order):
-        """Each number decides where it alone is broken, and before each later one."""
-        alone, before = set(), set()
-        for case in self.of(kind):
-            numbers, found = sorted(broken(case), key=order.index), answer(expected(case))
-            self.assertEqual(found, numbers[0] if numbers else 0, case.name)
-            alone.update(numbers if len(numbers) == 1 else ())
-            before.update((found, later) for later in numbers[1:])
-        self.assertEqual(alone, set(order))
-        self.assertEqual(before, set(combinations(order, 2)))
+        """Each number decides where it alone is broken, and before each later one; in both ways."""
+        for viewed in (False, True):
+            alone, before = set(), set()
+            for case in (case for case in self.of(kind) if case.viewed == viewed):
+                numbers, found = sorted(broken(case), key=order.index), answer(expected(case))
+                self.assertEqual(found, numbers[0] if numbers else 0, case.name)
+                alone.update(numbers if len(numbers) == 1 else ())
+                before.update((found, later) for later in numbers[1:])
+            self.assertEqual(alone, set(order))
+            self.assertEqual(before, set(combinations(order, 2)))
 
     def test_orders_of_a_table(self):
         self.orders(TableCase, lambda case: of_figures(case) + of_lent(case, case),
                     lambda answers: number_of(answers["full_run"][0]), (4, 3, 9, 10, 11, 12))
 
     def test_orders_of_a_beginning(self):
-        self.orders(BeginCase, of_figures, lambda answers: number_of(answers["begin"]), (4, 3, 10))
+        self.orders(WalkCase, of_figures, lambda answers: number_of(answers["begin"]), (4, 3, 10))
 
     def test_orders_of_a_step(self):
         def broken(case):
             numbers = [14] * bool(clauses_broken(case.run)) + [13] * case.run.ended
             return numbers + of_lent(case.run, case)
-        self.orders(StepCase, broken, lambda answers: number_of(answers["step"][0]),
+        self.orders(StepCase, broken, lambda answers: number_of(answers["steps"][0][0]),
                     (14, 13, 9, 11, 12))
 
     def test_orders_of_a_record(self):
@@ -106,7 +107,7 @@ class Covered(unittest.TestCase):
             self.assertEqual({number}, {number_of(answer[0]) for call, answer
                                         in expected(no_room).items() if call != "check"})
         before = set()
-        for one, two in combinations(defects, 2):
+        for one, two in combinations(records.PAIRED, 2):
             found = trial_refusal(self.cases[f"record-{one}-{two}"].trial)
             before |= {(found, later) for later in {int(one[0]), int(two[0])} - {found}}
         self.assertEqual(before, set(combinations((4, 3, 5, 6, 7), 2)) | {(6, 5)})
@@ -125,20 +126,23 @@ class Covered(unittest.TestCase):
             self.assertIn(f"file-defect-{name}", self.cases)
             self.assertEqual(read(self.cases[f"file-defect-{name}-odd"].data), Refused(1))
         before = set()
-        for one, two in combinations(defects, 2):
+        for one, two in combinations(files.PAIRED, 2):
             found = number_of(read(self.cases[f"file-defects-{one}-{two}"].data))
             before |= {(found, later) for later in {int(one[0]), int(two[0])} - {found}}
         self.assertEqual(before, set(combinations(range(2, 9), 2)) | {(n, 2) for n in range(3, 8)}
                          | {(6, 5)})
 
     def test_trials(self):
+        """Each shape is stored; the C tests take some thousand trials and as many damaged files."""
         found = Counter(number_of(read(case.data)) for case in self.of(FileCase))
-        self.assertGreaterEqual(found[0], 2000)
-        self.assertGreaterEqual(sum(found.values()) - found[0], 2000)
         self.assertEqual(set(found), set(range(9)))
+        self.assertGreaterEqual(sum(found.values()) - found[0], 700)
         shapes = {(trial.offers, trial.pairs, trial.k) for case in self.of(FileCase)
                   if not isinstance(trial := read(case.data), Refused)}
         self.assertEqual(len(shapes), sum(9 * min(4, offers) for offers in range(1, 17)))
+        found = Counter(number_of(read(case.data)) for case in every_case_of("file"))
+        self.assertGreaterEqual(found[0], 2000)
+        self.assertGreaterEqual(sum(found.values()) - found[0], 2000)
 
     def test_reports(self):
         """Buffers with room to spare, that just fit, and too short, for trials and refused files."""
@@ -147,7 +151,7 @@ class Covered(unittest.TestCase):
                      if case.report_room < files.LONGEST_REPORT
                      and (number_of(read(case.data)) == 0) == accepted]
             spare = Counter(case.report_room - len(report(case.data)) for case in cases)
-            self.assertTrue(all(spare[n] >= 50 for n in (-1, 0, 1)), spare)
+            self.assertTrue(all(spare[n] >= 10 for n in (-1, 0, 1)), spare)
             self.assertTrue(any(case.report_room == 0 for case in cases))
 
     def test_styles(self):
@@ -170,10 +174,22 @@ class Covered(unittest.TestCase):
         for name, _ in CLAUSES_OF_14:
             self.assertGreaterEqual(broken[(name,)], 3, name)
 
+    def test_looks(self):
+        """A value; Outside by the row, by the column, and by values that do not reach so far."""
+        found = Counter((case.row < case.rows, case.column < case.columns,
+                         case.row * case.columns + case.column < len(case.values),
+                         expected(case)["look"] is not OUTSIDE) for case in self.of(LookCase))
+        self.assertGreaterEqual(found[True, True, True, True], 50)
+        for reasons in ((False, True, True), (True, False, True), (True, True, False)):
+            self.assertGreaterEqual(found[(*reasons, False)], 5, reasons)
+        self.assertEqual({reasons for reasons in found if reasons[3] != all(reasons[:3])}, set())
+
     def test_walks(self):
-        lengths = Counter(len(expected(case)["steps"][0]) for case in self.of(WalkCase))
-        self.assertEqual(max(lengths), 33)
-        self.assertGreaterEqual(sum(lengths[n] for n in range(3, 34)), 30)
+        for viewed in (False, True):
+            lengths = Counter(len(expected(case)["steps"][0]) for case in self.of(WalkCase)
+                              if case.viewed == viewed)
+            self.assertEqual(max(lengths), 33)
+            self.assertGreaterEqual(sum(lengths[n] for n in range(3, 34)), 20, lengths)
 
     def test_examples(self):
         """The examples of document 01 that have no star, and those that have one."""
@@ -196,6 +212,7 @@ class Covered(unittest.TestCase):
         for name in ("p", "one", "zeros"):
             for kind in ("TableCase", "WalkCase"):
                 self.assertIn(f"example-{name}-{kind}", self.cases)
+                self.assertIn(f"example-{name}-{kind}-viewed", self.cases)
 
 
 if __name__ == "__main__":

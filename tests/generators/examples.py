@@ -1,12 +1,13 @@
 """The examples of document 01 by name, those with a star and those without."""
 
 from dataclasses import replace
+from itertools import product
 
 from reference.trial import make_trial, table_of
 from reference.trialfile import bytes_of, write
 
 from .files import LONGEST_REPORT, W
-from .kinds import BeginCase, FileCase, RecordCase, TableCase, WalkCase
+from .kinds import FileCase, RecordCase, TableCase, WalkCase
 
 W_WORDS = (0x10004004, 0x20010203, 0x3400002A, 0x31000007, 0x40000005, 0x40000003, 0x40000004,
            0x40000002, 0x4FFFFFFF, 0x40000001, 0xF000000A)
@@ -31,10 +32,11 @@ def starred():
                        trial.b, 0, 8)
     for row in range(8):
         yield TableCase(f"example-w-row-{row}", tuple(table_of(W)), 8, 2, 1, 1, 4, row, 8)
-    for kind in (TableCase, WalkCase):
-        yield kind(f"example-p-{kind.__name__}", P, 4, 3, 2, 1, 4, 0, 4)
-        yield kind(f"example-one-{kind.__name__}", (-3.5,), 1, 1, 1, 1, 2, 0, 1)
-        yield kind(f"example-zeros-{kind.__name__}", (0.0, -0.0), 2, 1, 1, 1, 2, 0, 2)
+    for kind, viewed in product((TableCase, WalkCase), (False, True)):
+        name = kind.__name__ + "-viewed" * viewed
+        yield kind(f"example-p-{name}", P, 4, 3, 2, 1, 4, 0, 4, viewed)
+        yield kind(f"example-one-{name}", (-3.5,), 1, 1, 1, 1, 2, 0, 1, viewed)
+        yield kind(f"example-zeros-{name}", (0.0, -0.0), 2, 1, 1, 1, 2, 0, 2, viewed)
 
 
 def unstarred():
@@ -55,7 +57,7 @@ def unstarred():
         yield FileCase(f"example-code-{code}", bytes_of(words), 1, LONGEST_REPORT)
     for rows in (4096, 4097):
         values = tuple(float(g) for g in range(rows))
-        yield BeginCase(f"example-begin-{rows}", rows, 1, 1, 1, 4096, rows - 1)
+        yield WalkCase(f"example-begin-{rows}", (), rows, 1, 1, 1, 4096, rows - 1, 0)
         yield TableCase(f"example-rows-{rows}", values, rows, 1, 1, 1, 4096, 4095, rows)
 
 

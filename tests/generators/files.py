@@ -17,13 +17,23 @@ BASE = make_trial((2, 8), 2, [("007", (4, 5)), ("42", (3, 1)), ("100", (-2, 6))]
 
 
 def file_cases(rng):
-    """All file cases."""
-    for name, trial in valid_trials(rng):
+    """Each shape of a trial once, and damaged files."""
+    yield from cases_of_files(rng, "file", valid_trials(rng, 1), damaged(rng))
+
+
+def further_file_cases(rng):
+    """More of each, and each two defects together."""
+    yield from cases_of_files(rng, "further", valid_trials(rng, 3), further_damaged(rng))
+
+
+def cases_of_files(rng, family, trials, damaged_files):
+    """Valid and damaged files as cases."""
+    for name, trial in trials:
         room = rng.choice((0, trial.offers - 1, trial.offers, 16, 16, 16, 16, 20))
         data = write(trial)
-        yield FileCase(f"file-valid-{name}", data, room, report_room(rng, data, trial.pairs))
-    for name, data in damaged(rng):
-        yield FileCase(f"file-{name}", data, rng.choice((0, 1, 16)), report_room(rng, data))
+        yield FileCase(f"{family}-valid-{name}", data, room, report_room(rng, data, trial.pairs))
+    for name, data in damaged_files:
+        yield FileCase(f"{family}-{name}", data, rng.choice((0, 1, 16)), report_room(rng, data))
 
 
 def report_room(rng, data, pairs=1):
@@ -38,7 +48,15 @@ def damaged(rng):
     yield from damaged_lengths(rng)
     yield from damaged_words("w", words_of(write(W)))
     yield from damaged_ends()
-    yield from defects_alone_and_paired()
+    yield from defects_alone()
+    yield from defects_paired({name: defects()[name] for name in PAIRED})
+    yield from random_damage(rng, 100)
+
+
+def further_damaged(rng):
+    """(name, bytes) of more such files."""
+    yield from damaged_kinds("w", words_of(write(W)))
+    yield from defects_paired(defects())
     yield from random_damage(rng, 800)
 
 
@@ -53,20 +71,25 @@ def damaged_lengths(rng):
     yield "longest", longest
     yield "longest-cut", longest[:-4]
     yield "longest-end-in-excess", longest + longest[-4:]
-    for length in (653, 655, 656, 660, 1304, 4096):
+    for length in (653, 655, 656, 1304):
         yield f"too-long-{length}", longest + rng.randbytes(length - len(longest))
     for length in (4, 8, 44, 652):
         yield f"all-zero-{length}", bytes(length)
         yield f"all-one-{length}", b"\xff" * length
 
 
-def damaged_words(name, words):
-    """Each word with each other kind, each bit flipped, words swapped, left out, doubled."""
+def damaged_kinds(name, words):
+    """Each word with each other kind."""
     for place, word in enumerate(words):
         for kind in KINDS:
             if kind != word >> 28:
                 yield f"{name}-kind-{place}-{kind}", bytes_of(
                     words[:place] + [kind << 28 | word & 0xFFF_FFFF] + words[place + 1:])
+
+
+def damaged_words(name, words):
+    """Each word with each bit flipped, words swapped, left out, doubled."""
+    for place, word in enumerate(words):
         for bit in range(32):
             yield f"{name}-bit-{place}-{bit}", bytes_of(
                 words[:place] + [word ^ 1 << bit] + words[place + 1:])
@@ -135,17 +158,29 @@ def defects():
     return listed
 
 
-def defects_alone_and_paired():
-    """Each defect alone, each two together, and all under a length that is no multiple of 4.
+# At least one defect of each number, at an early and at a late place.
+PAIRED = ("2-kind-0", "2-kind-1", "2-kind-4", "2-kind-10", "2-kind-11", "2-missing-1",
+          "2-missing-2", "2-missing-5", "2-missing-11", "3-0-8", "3-8-8", "4-k-0", "4-offers-17",
+          "4-pairs-10", "4-high-1", "5-digits-0", "5-too-many", "5-last", "6-second", "6-third",
+          "7-first", "7-last", "8-count", "8-more")
 
-    Of two the one that is listed first is laid on last: another kind, or a cut, over a bad value.
-    """
+
+def defects_alone():
+    """Each defect alone, and all under a length that is no multiple of 4."""
     words = words_of(write(BASE))
     for name, defect in defects().items():
         data = bytes_of(defect(words))
         yield f"defect-{name}", data
         yield f"defect-{name}-odd", data + b"\0"
-    for (one, first), (two, second) in combinations(defects().items(), 2):
+
+
+def defects_paired(listed):
+    """Each two of the defects listed.
+
+    The one that is listed first is laid on last: another kind, or a cut, over a bad value.
+    """
+    words = words_of(write(BASE))
+    for (one, first), (two, second) in combinations(listed.items(), 2):
         yield f"defects-{one}-{two}", bytes_of(first(second(words)))
 
 

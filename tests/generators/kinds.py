@@ -28,22 +28,22 @@ class RecordCase:
 
 
 class Repeated(tuple):
-    """The values of a large table: some are written and repeat, others are laid over them.
+    """The values of a large table: some that stand first, and then others that repeat.
 
     The program that is tested makes such a table from the few values, in the same way.
     """
 
-    def __new__(cls, written, length, place=0, laid=()):
-        cells = [written[i % len(written)] for i in range(length)]
-        cells[place:place + len(laid)] = laid
-        self = super().__new__(cls, cells)
-        self.written, self.place, self.laid = tuple(written), place, tuple(laid)
+    def __new__(cls, first, repeating, length):
+        rest = length - len(first)
+        turns = rest // len(repeating) + 1
+        self = super().__new__(cls, (*first, *(repeating * turns)[:rest]))
+        self.written, self.period = (*first, *repeating)[:length], len(repeating)
         return self
 
 
 @dataclass(frozen=True)
 class TableCase:
-    """A lent table for a full run."""
+    """A lent table for a full run, by itself or through a view."""
 
     name: str
     values: tuple
@@ -54,30 +54,31 @@ class TableCase:
     b: int
     observed: int
     work_room: int
+    viewed: bool = False
 
 
 class WalkCase(TableCase):
-    """A lent table for a run by steps, from its beginning until a step is refused."""
-
-
-@dataclass(frozen=True)
-class BeginCase:
-    """The figures that a run is begun from."""
-
-    name: str
-    rows: int
-    columns: int
-    k: int
-    a: int
-    b: int
-    observed: int
+    """A run that is begun over a lent table and taken step by step until a step is refused."""
 
 
 @dataclass(frozen=True)
 class StepCase:
-    """A step of a run, spoiled or not, over a lent table."""
+    """A run as it is given, spoiled or not, taken step by step until a step is refused."""
 
     name: str
     run: Run
     values: tuple
     work_room: int
+    viewed: bool = False
+
+
+@dataclass(frozen=True)
+class LookCase:
+    """A place of a view of a lent table, whose rows and columns may be others than the table's."""
+
+    name: str
+    values: tuple
+    rows: int
+    columns: int
+    row: int
+    column: int

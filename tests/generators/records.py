@@ -13,18 +13,18 @@ BASE = make_trial((2, 8), 2, [("007", (4, 5)), ("42", (3, 1)), ("100", (-2, 6))]
 
 
 def record_cases(rng):
-    """All record cases."""
-    for number in range(300):
-        trial = with_rubbish(rng, some_trial(rng, 16, 7))
-        yield roomy(f"record-valid-{number}", trial)
+    """All record cases; one in four has rubbish in the places that the counts don't use."""
+    for number in range(100):
+        trial = some_trial(rng, 16, 7)
+        yield roomy(f"record-valid-{number}", trial if number % 4 else with_rubbish(rng, trial))
     yield from short_rooms(rng)
-    for name, change in defects().items():
-        trial = with_rubbish(rng, change(BASE))
+    for turn, (name, change) in enumerate(defects().items()):
+        trial = change(BASE) if turn % 4 else with_rubbish(rng, change(BASE))
         yield roomy(f"record-{name}", trial)
         yield RecordCase(f"record-{name}-no-room", trial, 0, 0, 0)
-    for (one, first), (two, second) in combinations(defects().items(), 2):
-        yield roomy(f"record-{one}-{two}", second(first(BASE)))
-    for number in range(100):
+    for one, two in combinations(PAIRED, 2):
+        yield roomy(f"record-{one}-{two}", defects()[two](defects()[one](BASE)))
+    for number in range(60):
         yield roomy(f"record-wild-{number}", wild(rng))
 
 
@@ -47,7 +47,7 @@ def with_rubbish(rng, trial) -> Trial:
 
 def short_rooms(rng):
     """Refusal 12 at each buffer, and buffers that just fit."""
-    for number in range(60):
+    for number in range(25):
         trial = some_trial(rng, 16, 6)
         rows, cells = 2 ** trial.pairs, 2 ** trial.pairs * trial.offers
         words = 3 + trial.offers + trial.offers * trial.pairs
@@ -93,6 +93,12 @@ def defects():
     return listed
 
 
+# At least one defect of each number, at an early and at a late place.
+PAIRED = ("4-k-0", "4-offers-0", "4-offers-17", "4-pairs-10", "3-0-8", "3-8-8", f"3-{MOST}-{MOST}",
+          "5-digits-0", "5-number-1000", "5-last", "5-second", "6-second", "6-third",
+          "7-first-134217728", "7-last")
+
+
 def wild(rng) -> Trial:
     """Random figures, near the ranges or far off."""
     def figure(near):
@@ -101,4 +107,4 @@ def wild(rng) -> Trial:
                  tuple(rng.randrange(40) for _ in range(16)),
                  tuple(rng.choice((2, 3, 7, 7, 8)) if rng.random() < 0.2 else 2 for _ in range(16)),
                  tuple(rng.choice((1, -1, 0, 5, 2 ** 27)) if rng.random() < 0.1 else 3
-                       for _ in range(144)))
+                       for _ in range(40)) + (0,) * 104)

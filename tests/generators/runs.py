@@ -2,12 +2,13 @@
 
 import math
 from dataclasses import replace
+from itertools import chain, cycle, islice
 
-from reference.refusals import Refused
-from reference.run import Run, begin, step
+from reference.run import Run
 
 from .kinds import StepCase, WalkCase
-from .tables import MOST, STYLES, normal, refused_tables, rounded, staircase, table_case, values
+from .tables import (MOST, STYLES, begin_cases, in_both_ways, normal, refused_tables, rounded,
+                     staircase, table_case, values)
 from .trials import level
 
 # 5 rows, 4 columns, k 2: a run that no clause of 14 spoils, after two steps.
@@ -16,36 +17,15 @@ CELLS = tuple(float(v) for v in (9, 8, 7, 2, 4, 1, 2, 3, 0, 4, 5, 1, 1, 0, 1, 6,
 
 
 def step_cases(rng):
-    """All step cases."""
-    yield from trajectories(rng)
-    yield from arbitrary_runs(rng)
-    yield from spoiled_runs()
-    yield from refused_steps()
-    yield from wild_runs(rng)
-
-
-def trajectories(rng):
-    """Every step of runs from their beginning, and the step after the end."""
-    tables = []
-    for number in range(120):
-        rows, columns = rng.choice((1, 2, 5, 8, 16, 40)), rng.randint(1, 10)
-        tables.append(table_case(rng, f"step-{number}", rows, columns,
-                                 rng.randint(1, min(4, columns)), STYLES[number % len(STYLES)]))
-    tables += [staircase(rng, 9, columns, k) for k in (1, 2, 3, 4) for columns in (k, k + 2, 8)]
-    tables += [staircase(rng, 6, 32, 1)]
-    for t in tables:
-        run = begin(t.rows, t.columns, t.k, t.a, t.b, t.observed)
-        while True:
-            yield StepCase(f"{t.name}-after-{run.steps}", run, t.values, t.work_room)
-            answer = step(run, t.values)
-            if isinstance(answer, Refused):
-                break
-            run = answer[0]
+    """Runs of each sort, every other one through a view, and refused steps in both ways."""
+    for turn, case in enumerate(chain(arbitrary_runs(rng), spoiled_runs(), wild_runs(rng))):
+        yield replace(case, viewed=turn % 2 == 1)
+    yield from in_both_ways(refused_steps())
 
 
 def arbitrary_runs(rng):
     """Runs that no clause spoils, whatever led there: any k or more rejected, some left."""
-    for number in range(400):
+    for number in range(60):
         rows, k = rng.choice((1, 3, 8, 25)), rng.randint(1, 4)
         columns = rng.choice((rng.randint(k + 1, 9), rng.randint(k + 1, 16), 32 if k < 3 else 12))
         held = rng.sample(range(columns), rng.randint(k, columns - 1))
@@ -95,14 +75,15 @@ def lent():
 
 
 def spoiled_runs():
-    """Each spoil, ended as well or not, over each lent table: 14 before 13, 9, 11, 12.
+    """Each spoil, ended as well or not, over lent tables in turn: 14 before 13, 9, 11, 12.
 
     Some clauses speak of runs not ended only: with ended set these are 13.
     """
+    turns = cycle(lent().items())
     for name, change in spoils().items():
         for ended in (False, True):
             run = replace(LEGAL, **{"ended": ended, **change})
-            for lent_name, (cells, room) in lent().items():
+            for lent_name, (cells, room) in islice(turns, 5):
                 yield StepCase(f"step-spoiled-{name}-{'ended-' * ended}{lent_name}",
                                run, cells, room)
 
@@ -129,7 +110,7 @@ def refused_steps():
 
 def wild_runs(rng):
     """Random figures near the clauses' edges."""
-    for number in range(500):
+    for number in range(200):
         run = Run(rng.choice((5, 5, 5, 4, 6)), rng.choice((4, 4, 4, 3, 5)), rng.randint(1, 4),
                   rng.randint(1, 4), rng.randint(4, 5), rng.choice((0, 1, 4, 5)),
                   rng.choice((rng.randrange(16), rng.randrange(16), rng.randrange(32))),
@@ -138,18 +119,29 @@ def wild_runs(rng):
 
 
 def walk_cases(rng):
-    """Runs from their beginning until a step is refused: tables of each style, long runs, refusals."""
-    for number in range(160):
-        rows, columns = rng.choice((1, 2, 4, 8, 20)), rng.randint(1, 14)
-        yield walked(table_case(rng, f"styled-{number}", rows, columns,
-                                rng.randint(1, min(4, columns)), STYLES[number % len(STYLES)]))
-    for k, columns in ((1, 32), (2, 16), (3, 12), (4, 10)):
-        yield walked(staircase(rng, 40, columns, k, rng.randrange(40)))
-    yield walked(table_case(rng, "4096x32", 4096, 32, 2, normal, 12, (1, 4096)))
-    for refused in list(refused_tables(rng))[:60]:
-        yield walked(refused)
+    """Tables of each style, every other one through a view; long and refused runs in both ways."""
+    for turn, case in enumerate(styled_walks(rng)):
+        yield walked(replace(case, viewed=turn % 2 == 1))
+    for case in in_both_ways(chain(long_walks(rng), refused_tables(), begin_cases(rng))):
+        yield walked(case)
 
 
 def walked(t) -> WalkCase:
     """The run by steps of a table case."""
     return WalkCase(**{**vars(t), "name": f"walk-{t.name}"})
+
+
+def styled_walks(rng):
+    """Tables of each style."""
+    for number in range(100):
+        rows, columns = rng.choice((1, 2, 4, 8, 20)), rng.randint(1, 12)
+        yield table_case(rng, f"styled-{number}", rows, columns,
+                         rng.randint(1, min(4, columns)), STYLES[number % len(STYLES)])
+
+
+def long_walks(rng):
+    """Many steps, and the largest table."""
+    for k, columns in ((1, 32), (2, 16), (3, 12), (4, 10)):
+        for rows in (40, 16, 9):
+            yield staircase(rng, rows, columns, k, rng.randrange(rows))
+    yield table_case(rng, "4096x32", 4096, 32, 2, normal, 12, (1, 4096))

@@ -1,11 +1,12 @@
 """Lent tables and the figures of a begun run: refusals 4, 3, 9, 10, 11, 12 in that order."""
 
 import math
-from itertools import combinations
+from dataclasses import replace
+from itertools import chain, combinations
 
 from reference.refusals import MAX_B
 
-from .kinds import BeginCase, Repeated, TableCase
+from .kinds import Repeated, TableCase
 from .trials import level
 
 MOST = 2 ** 64 - 1
@@ -56,21 +57,22 @@ STYLES = (ties, signed_zeros, subnormals, huge, normal, rounded, any_size, neigh
 
 
 def values(rng, rows, columns, style, observed, lift=0):
-    """A table of that style; the first `lift` columns get falling peaks in the observed row."""
-    drawn = [style(rng) for _ in range(drawn_for(rows * columns))]
+    """A table of that style; the first `lift` columns get falling peaks in the observed row.
+
+    That row is the first one of a large table.
+    """
     peaks = [1e300 if j % 3 == 0 else 2.0 + 0.25 * (columns - j) for j in range(lift)]
-    cells = Repeated(drawn, rows * columns, observed * columns, peaks)
-    return tuple(cells) if len(cells) <= LARGE else cells
-
-
-def drawn_for(length):
-    """How many values of a table are drawn."""
-    return length if length <= LARGE else DRAWN
+    if rows * columns > LARGE:
+        first = peaks + [style(rng) for _ in range(columns - lift)] if lift else []
+        return Repeated(first, [style(rng) for _ in range(DRAWN)], rows * columns)
+    cells = [style(rng) for _ in range(rows * columns)]
+    cells[observed * columns:observed * columns + lift] = peaks
+    return tuple(cells)
 
 
 def table_case(rng, name, rows, columns, k, style, lift=None, at=None) -> TableCase:
     """An accepted table with an observed row drawn for it, and a level where none is given."""
-    observed = rng.choice((0, rows - 1, rng.randrange(rows)))
+    observed = rng.choice((0, rows - 1, rng.randrange(rows))) if rows * columns <= LARGE else 0
     lift = rng.randint(0, columns) if lift is None else lift
     a, b = at or level(rng, rows)
     cells = values(rng, rows, columns, style, observed, lift if style in (normal, rounded) else 0)
@@ -90,15 +92,28 @@ def staircase(rng, rows, columns, k, observed=0) -> TableCase:
 
 
 def table_cases(rng):
-    """All table cases."""
-    yield from accepted_tables(rng)
-    yield from large_tables(rng)
-    yield from refused_tables(rng)
+    """Accepted tables, every other one through a view, and refused ones, each in both ways."""
+    for turn, case in enumerate(chain(accepted_tables(rng, 120), large_tables(rng))):
+        yield replace(case, viewed=turn % 2 == 1)
+    yield from in_both_ways(refused_tables())
 
 
-def accepted_tables(rng):
+def further_table_cases(rng):
+    """More accepted tables, and each two refusals together."""
+    for case in chain(accepted_tables(rng, 600), refused_tables(every_pair=True)):
+        yield replace(case, name=f"further-{case.name}")
+
+
+def in_both_ways(cases):
+    """Each case by itself and through a view."""
+    for case in cases:
+        yield case
+        yield replace(case, name=f"{case.name}-viewed", viewed=True)
+
+
+def accepted_tables(rng, how_many):
     """Small and middling tables of each style, and staircases."""
-    for number in range(600):
+    for number in range(how_many):
         style = STYLES[number % len(STYLES)]
         rows, columns = rng.choice((1, 2, 3, 4, 7, 8, 16, 33, 64)), rng.randint(1, 12)
         k = rng.randint(1, min(4, columns))
@@ -124,17 +139,17 @@ def large_tables(rng):
     yield table_case(rng, "table-4095x31", 4095, 31, 3, any_size)
     yield staircase(rng, 64, 32, 1, 63)
     yield staircase(rng, 12, 32, 3, 5)
-    ones = [float(rng.randrange(3)) for _ in range(DRAWN)]
+    ones = [float(rng.randrange(3)) for _ in range(101)]
     for rows, columns in ((4096, 32), (4097, 1), (4096, 33), (4097, 32), (1, 33)):
         for room in (rows, rows - 1):
             yield TableCase(f"table-end-{rows}x{columns}-room-{room}",
-                            Repeated(ones, rows * columns), rows, columns, 1, 1, 4, rows - 1, room)
-    last = 4096 * 32 - 1
+                            Repeated((), ones, rows * columns), rows, columns, 1, 1, 4, rows - 1,
+                            room)
     for name, bad in (("inf", INF), ("nan", NAN)):
-        yield TableCase(f"table-end-{name}", Repeated(ones, last + 1, last, [bad]), 4096, 32, 2,
+        yield TableCase(f"table-end-{name}", Repeated((bad,), ones, 4096 * 32), 4096, 32, 2,
                         1, 4, 0, 4096)
-    for length in (last, last + 2):
-        yield TableCase(f"table-end-length-{length}", Repeated(ones, length), 4096, 32, 2,
+    for length in (4096 * 32 - 1, 4096 * 32 + 1):
+        yield TableCase(f"table-end-length-{length}", Repeated((), ones, length), 4096, 32, 2,
                         1, 4, 0, 4096)
 
 
@@ -149,8 +164,8 @@ def figure_defects():
     return listed
 
 
-def refused_tables(rng):
-    """Each refusal alone and each two together, over an accepted table of 3 rows, 2 columns."""
+def refused_tables(every_pair=False):
+    """Each refusal alone, and some or all pairs, over an accepted table of 3 rows, 2 columns."""
     good = dict(values=(5.0, 1.0, 2.0, 4.0, 0.0, 3.0), rows=3, columns=2, k=2, a=1, b=3,
                 observed=0, work_room=3)
     listed = figure_defects()
@@ -163,19 +178,29 @@ def refused_tables(rng):
     listed["ok"] = {}
     for name, change in listed.items():
         yield TableCase(f"table-{name}", **{**good, **change})
-    for (one, first), (two, second) in combinations(listed.items(), 2):
+    paired = listed if every_pair else thinned(listed)
+    for (one, first), (two, second) in combinations(paired.items(), 2):
         yield TableCase(f"table-{one}-{two}", **{**good, **second, **first})
 
 
+def thinned(listed):
+    """Of each number's changes the first and the last."""
+    by_number = {}
+    for name, change in listed.items():
+        by_number.setdefault(name.split("-")[0], []).append((name, change))
+    return {name: change for changes in by_number.values()
+            for name, change in (changes[0], changes[-1])}
+
+
 def begin_cases(rng):
-    """All begin cases: accepted figures at their ends, each defect, each two defects."""
-    good = dict(rows=3, columns=2, k=2, a=1, b=3, observed=0)
+    """Beginnings over no table: accepted figures at their ends, defects alone and in pairs."""
+    good = dict(values=(), rows=3, columns=2, k=2, a=1, b=3, observed=0, work_room=0)
     for number in range(60):
         rows, columns = rng.choice((1, 2, 4096, rng.randint(1, 4096))), rng.randint(1, 32)
         a, b = level(rng, rows)
-        yield BeginCase(f"begin-valid-{number}", rows, columns, rng.randint(1, min(4, columns)),
-                        a, b, rng.choice((0, rows - 1)))
+        yield TableCase(f"begin-valid-{number}", (), rows, columns, rng.randint(1, min(4, columns)),
+                        a, b, rng.choice((0, rows - 1)), 0)
     for name, change in figure_defects().items():
-        yield BeginCase(f"begin-{name}", **{**good, **change})
-    for (one, first), (two, second) in combinations(figure_defects().items(), 2):
-        yield BeginCase(f"begin-{one}-{two}", **{**good, **second, **first})
+        yield TableCase(f"begin-{name}", **{**good, **change})
+    for (one, first), (two, second) in combinations(thinned(figure_defects()).items(), 2):
+        yield TableCase(f"begin-{one}-{two}", **{**good, **second, **first})

@@ -9,6 +9,7 @@ run.py        a run taken step by step: begin, step, the clauses of refusal 14
 trial.py      the trial record: its refusals, its table, its full run
 trialfile.py  reader and writer of trial files
 report.py     the text of the report program
+view.py       a place of a view of lent values
 ccall.py      the call for C
 
 A refusal is a result like any other: `Refused(number)` is returned, never raised.

@@ -4,9 +4,9 @@
 use mathlib.Core.Path.{_≡_, ap, _∙_}
 use mathlib.Core.List.{List, map}
 use lib.Ieee.{Float}
-use Rattle.stepdown.specs.declared.FullRun.{FullRun}
+use Rattle.runs.specs.declared.FullRun.{FullRun}
 use Rattle.trialfile.specs.declared.Reading.{Reading}
-use Rattle.benchcalls.specs.Parts.{criticalOf, figuresOf}
+use Rattle.benchcalls.specs.Parts.{criticalOfRecord, figuresOf}
 
 module _ {x y : Reading} (e : x ≡ y) where
   pub read-parts : (x .refusal ≡ y .refusal) × ((figuresOf (x .trial) ≡ figuresOf (y .trial)) × ((x .trial .codes ≡ y .trial .codes) × ((x .trial .digits ≡ y .trial .digits) × (x .trial .differences ≡ y .trial .differences))))
@@ -15,9 +15,9 @@ module _ {x y : Reading} (e : x ≡ y) where
     (ap (λ (r : Reading). figuresOf (r .trial)) e, (ap (λ (r : Reading). r .trial .codes) e, (ap (λ (r : Reading). r .trial .digits) e, ap (λ (r : Reading). r .trial .differences) e))),
   )
 
-module _ {x y : FullRun} (e : x ≡ y) {v w cs : List Float} (p : v ≡ w) (q : cs ≡ map criticalOf (x .records)) where
-  pub run-parts : (x .refusal ≡ y .refusal) × ((v ≡ w) × ((x .steps ≡ y .steps) × ((cs ≡ map criticalOf (y .records)) × (x .counts ≡ y .counts))))
+module _ {x y : FullRun} (e : x ≡ y) {v w cs : List Float} (p : v ≡ w) (q : cs ≡ map criticalOfRecord (x .records)) where
+  pub run-parts : (x .refusal ≡ y .refusal) × ((v ≡ w) × ((x .steps ≡ y .steps) × ((cs ≡ map criticalOfRecord (y .records)) × (x .counts ≡ y .counts))))
   run-parts = (
     ap (λ (r : FullRun). r .refusal) e,
-    (p, (ap (λ (r : FullRun). r .steps) e, (q ∙ ap (λ (r : FullRun). map criticalOf (r .records)) e, ap (λ (r : FullRun). r .counts) e))),
+    (p, (ap (λ (r : FullRun). r .steps) e, (q ∙ ap (λ (r : FullRun). map criticalOfRecord (r .records)) e, ap (λ (r : FullRun). r .counts) e))),
   )

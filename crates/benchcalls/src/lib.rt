@@ -1,6 +1,6 @@
 // The calls that only the benchmark makes (docs/BENCHMARKS.md): they hand out whole answers, so that an answer can be compared and no part of it is left uncomputed.
 // The definitions are in specs/, their laws in proofs/.
-use stepdown::Record;
+use runs::Record;
 use trial::Trial;
 ghost use mathlib.Core.Path.{_≡_};
 ghost use mathlib.Core.List.{map};
@@ -9,7 +9,7 @@ ghost use Rattle.stepdown.specs.Answers.{fullAnswer, fullWork};
 ghost use Rattle.trialfile.specs.Files.{readingOf};
 ghost use Rattle.trialfile.specs.Writings.{writingOf, afterWriting};
 ghost use Rattle.rendering.specs.Renderings.{renderingOf, afterRendering};
-ghost use Rattle.benchcalls.specs.Parts.{criticalOf, figuresOf, trialWith};
+ghost use Rattle.benchcalls.specs.Parts.{criticalOfRecord, figuresOf, trialFrom};
 
 // Reads a file. The result is 0 or the refusal number; the arrays hold the trial that reading answers, the first one a, b, k, offers and pairs.
 #[no_mangle]
@@ -47,8 +47,8 @@ pub extern "C" fn bench_write(
     differences: &[i32; 144],
     out: &mut [u8],
 ) -> usize
-    ensures { λ r. ⌜ r ≡ writingOf (trialWith (now (figures .entry)) (now (codes .entry)) (now (digits .entry)) (now (differences .entry))) (length (now (out .entry))) .length ⌝ }
-    ensures { λ r. ⌜ now (out .exit) ≡ afterWriting (trialWith (now (figures .entry)) (now (codes .entry)) (now (digits .entry)) (now (differences .entry))) (now (out .entry)) ⌝ }
+    ensures { λ r. ⌜ r ≡ writingOf (trialFrom (now (figures .entry)) (now (codes .entry)) (now (digits .entry)) (now (differences .entry))) (length (now (out .entry))) .length ⌝ }
+    ensures { λ r. ⌜ now (out .exit) ≡ afterWriting (trialFrom (now (figures .entry)) (now (codes .entry)) (now (digits .entry)) (now (differences .entry))) (now (out .entry)) ⌝ }
 {
     let t = Trial {
         a: figures[0],
@@ -76,7 +76,7 @@ pub extern "C" fn bench_report(file: &[u8], text: &mut [u8]) -> usize
 
 // The critical values of records.
 fn criticals_of(records: [Record; 32]) -> [f64; 32]
-    ensures { λ r. ⌜ r ≡ map criticalOf records ⌝ }
+    ensures { λ r. ⌜ r ≡ map criticalOfRecord records ⌝ }
 {
     let mut criticals = [0.0f64; 32];
     let mut i: usize = 0;
@@ -106,7 +106,7 @@ pub extern "C" fn bench_table(
     ensures { λ r. ⌜ r ≡ fullAnswer (now (table .entry)) rows columns k a b observed (length (now (work .entry))) .refusal ⌝ }
     ensures { λ r. ⌜ now (work .exit) ≡ fullWork (now (table .entry)) rows columns k a b observed (now (work .entry)) ⌝ }
     ensures { λ r. ⌜ now (steps .exit) ≡ fullAnswer (now (table .entry)) rows columns k a b observed (length (now (work .entry))) .steps ⌝ }
-    ensures { λ r. ⌜ now (criticals .exit) ≡ map criticalOf (fullAnswer (now (table .entry)) rows columns k a b observed (length (now (work .entry))) .records) ⌝ }
+    ensures { λ r. ⌜ now (criticals .exit) ≡ map criticalOfRecord (fullAnswer (now (table .entry)) rows columns k a b observed (length (now (work .entry))) .records) ⌝ }
     ensures { λ r. ⌜ now (counts .exit) ≡ fullAnswer (now (table .entry)) rows columns k a b observed (length (now (work .entry))) .counts ⌝ }
 {
     let run = stepdown::full_run(table, work, rows, columns, k, a, b, observed);

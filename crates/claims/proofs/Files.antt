@@ -2,39 +2,39 @@
 --   same-trimmed       a trial, and the same trial with zero in the places that its counts don't use
 --   file-written       an accepted trial in a buffer that is long enough
 --   write-back, read-back      the two round trips, through the lent buffer
---   read-number        what reading answers
 --   cut-off            more bytes than one above the longest file change nothing
-use Prim.Native.Nat.{ℕ, zero, suc, _+_, _-_, _*_, _%_, _≤_, _<_}
+use Prim.Native.Nat.{ℕ, _+_, _-_, _*_, _%_, _≤_, _<_}
 use native.Mathlib.Omega.{arith}
 use native.Mathlib.Decide.{decLe}
-use mathlib.Core.Path.{_≡_, refl, sym, ap, ap₂, _∙_, subst}
+use mathlib.Core.Path.{_≡_, refl, sym, ap, _∙_, subst}
 use mathlib.Core.Bool.{Bool, true, false, false≢true, cond, not, _||_}
-use mathlib.Core.List.{List, [], _∷_, _++_}
-use lib.ListN.{length, take, drop, replicate}
-use lib.Seq.{take-at, take-all, take-length, length-take-le}
+use mathlib.Core.List.{List}
+use lib.ListN.{length, take, drop}
+use lib.Seq.{take-at, take-all, length-take-le}
 use lib.Dec.{ltb, eqb}
-use lib.IntN.{pos}
-use borrow.Author.Tests.{lt-ltb, ne-eqb}
-use Rattle.stepdown.specs.Refusals.{firstRefusal}
-use Rattle.stepdown.specs.Buffers.{written}
-use Rattle.trial.specs.Record.{Typed}
+use borrow.Author.Tests.{lt-ltb}
+use Rattle.refusals.specs.Answers.{firstRefusal}
+use Rattle.refusals.specs.Buffers.{written}
+use Rattle.refusals.proofs.Answers.{refused}
+use Rattle.trial.specs.Record.{ArrayLengths}
 use Rattle.trial.specs.Used.{SameUsed}
 use Rattle.trial.specs.Refusals.{trialRefusal}
 use Rattle.trial.specs.declared.Trial.{Trial}
 use Rattle.trialfile.specs.Words.{Bytes, wordsOf}
-use Rattle.trialfile.specs.Files.{longest, badLength, placeChecks, trialOf, fileRefusal, answered, readingOf, wordsBefore}
+use Rattle.trialfile.specs.Files.{longest, badLength, placeChecks, fileChecks, trialOf, fileRefusal, readingOf, wordsBefore}
 use Rattle.trialfile.specs.Writings.{fileOf, fileLength, trimmed, writingOf, afterWriting}
 use Rattle.trialfile.specs.declared.Reading.{Reading}
 use Rattle.trialfile.specs.declared.Writing.{Writing}
 use Rattle.trialfile.proofs.Parts.{parts}
 use Rattle.trialfile.proofs.Writes.{writing-done}
 use Rattle.trialfile.proofs.Written.{fileLength-is}
-use Rattle.trialfile.proofs.RoundTrip.{write-read, read-taken, read-write, read-accepted, read-typed}
-use Rattle.filerun.specs.FileRuns.{fileRun, acceptedFile, refusedFile}
-use Rattle.filerun.specs.declared.FileRun.{FileRun}
-use Rattle.rendering.specs.Reports.{textOf, reportOf}
+use Rattle.trialfile.proofs.RoundTrip.{write-read, read-taken, read-write, read-accepted, read-lengths}
+use Rattle.trialrun.specs.FileRuns.{fileRun, acceptedFile, refusedFile}
+use Rattle.rendering.specs.Reports.{reportOf}
+use Rattle.rendering.specs.Internal.{textOf}
+use Rattle.rendering.proofs.FileTexts.{text-is}
 
-module _ (t : Trial) (ty : Typed t) (h : trialRefusal t ≡ 0) where
+module _ (t : Trial) (ty : ArrayLengths t) (h : trialRefusal t ≡ 0) where
   pub same-trimmed : SameUsed t (trimmed t)
   unfolding trimmed
   same-trimmed = let p = parts t ty h in record {
@@ -57,7 +57,7 @@ module _ (t : Trial) (ty : Typed t) (h : trialRefusal t ≡ 0) where
         ap (take (fileLength t)) (sym (file-written .1))
         ∙ take-at (fileOf t) (drop (length (fileOf t)) buf) (fileLength t) (fileLength-is t ty h)
 
-    pub write-back : readingOf (take ((writingOf t (length buf)) .length) (afterWriting t buf)) ≡ answered 0 (trimmed t)
+    pub write-back : readingOf (take ((writingOf t (length buf)) .length) (afterWriting t buf)) ≡ record { refusal = 0; trial = trimmed t }
     write-back =
         ap (λ (w : Writing). readingOf (take (w .length) (afterWriting t buf))) (sym (file-written .0))
         ∙ ap readingOf file-left ∙ write-read t ty h
@@ -67,13 +67,13 @@ module _ (bytes : List ℕ) (b : Bytes bytes) (h : fileRefusal bytes ≡ 0) wher
   file-again = read-write bytes h b
 
   length-again : fileLength (trialOf (wordsOf bytes)) ≡ length bytes
-  length-again = sym (fileLength-is (trialOf (wordsOf bytes)) (read-typed bytes h) (read-accepted bytes h)) ∙ ap length file-again
+  length-again = sym (fileLength-is (trialOf (wordsOf bytes)) (read-lengths bytes h) (read-accepted bytes h)) ∙ ap length file-again
 
   module _ (buf : List ℕ) (room : length bytes ≤ length buf) where
     written-again : (writingOf (trialOf (wordsOf bytes)) (length buf) ≡ record { refusal = 0; length = length bytes }) × (take (length bytes) (afterWriting (trialOf (wordsOf bytes)) buf) ≡ bytes)
     written-again =
         let r : fileLength (trialOf (wordsOf bytes)) ≤ length buf = omega (arith, length-again) in
-        let ty = read-typed bytes h in
+        let ty = read-lengths bytes h in
         let ok = read-accepted bytes h in (
           sym (file-written (trialOf (wordsOf bytes)) ty ok buf r .0) ∙ ap (λ (n : ℕ). record { refusal = 0; length = n }) length-again,
           ap (λ (n : ℕ). take n (afterWriting (trialOf (wordsOf bytes)) buf)) (sym length-again) ∙ file-left (trialOf (wordsOf bytes)) ty ok buf r ∙ file-again,
@@ -83,14 +83,6 @@ module _ (bytes : List ℕ) (b : Bytes bytes) (h : fileRefusal bytes ≡ 0) wher
     read-back =
         subst (λ (t : Trial). (writingOf t (length buf) ≡ record { refusal = 0; length = length bytes }) × (take (length bytes) (afterWriting t buf) ≡ bytes))
         (sym (ap (λ (r : Reading). r .trial) (read-taken bytes h))) written-again
-
-pub read-number : (bytes : List ℕ) → (readingOf bytes) .refusal ≡ fileRefusal bytes
-unfolding readingOf
-read-number bytes = go (fileRefusal bytes)
-  where
-    go : (n : ℕ) → (answered n (trialOf (wordsOf bytes))) .refusal ≡ n
-    go zero = refl
-    go (suc n) = refl
 
 -- ---- input that is longer than any file
 
@@ -105,17 +97,11 @@ too-long bytes h = go (eqb (length bytes) 0) (not (eqb (length bytes % 4) 0)) (l
     go false false false e = absurd (false≢true e)
 
 refused-alike : (xs ys : List ℕ) (n : ℕ) → (n ≡ 0 → ⊥) → fileRefusal xs ≡ n → fileRefusal ys ≡ n → fileRun xs ≡ fileRun ys
-unfolding fileRun
-refused-alike xs ys n f p q = refused xs p ∙ sym (refused ys q)
-  where
-    refused : (cs : List ℕ) → fileRefusal cs ≡ n → cond (eqb (fileRefusal cs) 0) (acceptedFile (trialOf (wordsOf cs))) (refusedFile (fileRefusal cs)) ≡ refusedFile n
-    refused cs e =
-        ap (λ (m : ℕ). cond (eqb m 0) (acceptedFile (trialOf (wordsOf cs))) (refusedFile m)) e
-        ∙ ap (λ (b : Bool). cond b (acceptedFile (trialOf (wordsOf cs))) (refusedFile n)) (ne-eqb n 0 f)
+unfolding fileRun fileRefusal
+refused-alike xs ys n f p q = sym (refused (acceptedFile (trialOf (wordsOf xs))) refusedFile (fileChecks xs) n (sym p) f) ∙ refused (acceptedFile (trialOf (wordsOf ys))) refusedFile (fileChecks ys) n (sym q) f
 
 pub cut-off : (bytes : List ℕ) → reportOf (take (longest + 1) bytes) ≡ reportOf bytes
-unfolding reportOf
-cut-off bytes = ap textOf (go (decLe (length bytes) (longest + 1)))
+cut-off bytes = sym (text-is (take (longest + 1) bytes)) ∙ ap textOf (go (decLe (length bytes) (longest + 1))) ∙ text-is bytes
   where
     go : Dec (length bytes ≤ longest + 1) → fileRun (take (longest + 1) bytes) ≡ fileRun bytes
     go (yes h) = ap fileRun (take-all (longest + 1) bytes h)

@@ -1,3 +1,3 @@
-pub mod Deciding
 pub mod Files
+pub mod Calls
 pub mod Claims

@@ -1,36 +1,37 @@
 -- The general form of demand 3. X is a table, and for each of its rows g there is a run over a table Y g of its own, in which the
 -- idle columns of Y g have the rows of X in some order and the observed row shows the idle values of X's row g.
 -- Then k or more idle columns are rejected in at most e of the runs.
-use Prim.Native.Nat.{ℕ, zero, suc, _+_, _-_, _≤_, _<_}
+use Prim.Native.Nat.{ℕ, _≤_, _<_}
 use native.Mathlib.Omega.{arith}
 use native.Mathlib.Decide.{decLe}
-use mathlib.Core.Path.{_≡_, refl, sym, ap, ap₂, _∙_, subst}
-use mathlib.Core.Bool.{Bool, true, false, not, cond, _&&_, _||_}
-use mathlib.Core.List.{List, [], _∷_, map}
-use lib.ListN.{length, getD, length-map}
+use mathlib.Core.Path.{_≡_, refl, sym, ap, _∙_, subst}
+use mathlib.Core.Logic.{_↔_}
+use mathlib.Core.Bool.{Bool, false, _&&_}
+use mathlib.Core.List.{List, [], map}
+use lib.ListN.{length, getD}
 use lib.Dec.{ltb, leb, T, ltb→lt, lt→ltb, leb→le, le→leb}
 use lib.Ieee.{Float}
-use Rattle.order.specs.Order.{finite, smaller, plusZero}
-use Rattle.order.proofs.Booleans.{and-left, and-right, and-both, not-below}
+use Rattle.order.specs.Order.{plusZero}
+use Rattle.order.specs.Counting.{count, countBelow}
+use Rattle.order.specs.Lists.{tabulate}
+use Rattle.order.proofs.Booleans.{same-test, and-left, and-right, not-below}
 use Rattle.order.proofs.Keys.{key}
-use Rattle.order.specs.Counting.{count, countBelow, all}
-use Rattle.select.specs.Rank.{kthLargest}
-use Rattle.order.proofs.Counts.{count-map, count-le-all, countBelow-le, countBelow-none, countBelow-list, all-getD}
-use Rattle.stepdown.specs.Tables.{allowance}
-use Rattle.stepdown.specs.Columns.{Columns, size, _∩_, within}
-use Rattle.stepdown.specs.Method.{kMax, criticalValue}
-use Rattle.stepdown.specs.Runs.{begun, rejectedSet, stepsOf, verdictOf, tabulate, fullRun, Outcome}
-use Rattle.stepdown.specs.declared.Run.{Run}
-use Rattle.stepdown.specs.declared.Verdict.{Verdict}
-use Rattle.stepdown.specs.declared.Verdict.the-variants.{Rejected, Kept}
-use Rattle.stepdown.proofs.Sets.{has, _⊆_, ⊆-by, ⊆-length, size-mono, length-∩, has-∩, size-test}
-use Rattle.stepdown.proofs.Begun.{begun-empty}
-use Rattle.stepdown.proofs.Tabulate.{tabulate-length, tabulate-getD}
-use Rattle.stepdown.proofs.Critical.{Sound, soundRow, sound-length, kMax-law, criticalValue-law}
-use Rattle.stepdown.proofs.Steps.{Fitting, seenRow, rejected-length}
-use Rattle.verdicts.specs.Verdicts.{isRejected}
-use Rattle.control.specs.Statements.{rejectedAmong, runsThatReject}
+use Rattle.order.proofs.Counts.{count-map, count-same, countBelow-le, countBelow-none, countBelow-list, all-getD}
+use Rattle.order.proofs.Lists.{tabulate-length, tabulate-getD}
+use Rattle.order.proofs.Rows.{Sound, soundRow, sound-length}
+use Rattle.columns.specs.Columns.{Columns, size, _∩_, within, columnsOf}
+use Rattle.columns.proofs.Sets.{has, _⊆_, ⊆-by, length-∩, has-∩, size-test}
+use Rattle.method.specs.Method.{kMax, criticalValue}
+use Rattle.method.proofs.Critical.{kMax-law, criticalValue-law}
+use Rattle.runs.specs.Stepdown.{liveSet, rejectedSet, firstState, stepsOf, verdictOf, fullRun}
+use Rattle.runs.specs.FullRuns.{isRejected}
+use Rattle.runs.specs.declared.State.{State}
+use Rattle.runs.specs.declared.Verdict.{Verdict}
+use Rattle.runs.specs.declared.Verdict.the-variants.{Kept}
+use Rattle.runs.proofs.Steps.{rejected-length}
+use Rattle.runs.proofs.Start.{first-empty}
 use Rattle.control.proofs.OneRun.{aboveKey, aboveKey-length, rejected-above, Held}
+use Rattle.control.specs.Statements.{rejectedAmong, runsThatReject}
 
 -- ---- one run, counted
 
@@ -50,17 +51,17 @@ rejected-within n idle vs B l m h =
 above-size : (K : Columns) (v : ℕ) (row : List Float) → size (K ∩ aboveKey v row) ≡ count (λ x. ltb v (key x)) (within K row)
 above-size K v row = size-test (λ x. ltb v (key x)) K row
 
--- the verdicts of the full run of a table Y of M rows and n columns
-abbrev verdicts : ℕ → ℕ → Columns → List (List Float) → ℕ → ℕ → ℕ → ℕ → List Verdict
-verdicts M n live Y k a b o = fullRun live Y (begun M n k a b o) .verdicts
+-- the verdicts of the full run of a table Y of n columns, whatever rows the state tells
+abbrev verdicts : ℕ → ℕ → ℕ → List (List Float) → ℕ → ℕ → ℕ → List Verdict
+verdicts m n live Y k e o = fullRun Y (firstState m n k e o live) .verdicts
 
-verdicts-length : (M n : ℕ) (live : Columns) (Y : List (List Float)) (k a b o : ℕ) → length (verdicts M n live Y k a b o) ≡ n
+verdicts-length : (m n live : ℕ) (Y : List (List Float)) (k e o : ℕ) → length (verdicts m n live Y k e o) ≡ n
 unfolding fullRun
-verdicts-length M n live Y k a b o = tabulate-length n (λ j. verdictOf (stepsOf live Y (begun M n k a b o)) j)
+verdicts-length m n live Y k e o = tabulate-length n (λ j. verdictOf (stepsOf Y (firstState m n k e o live)) j)
 
-verdict-is : (M n : ℕ) (live : Columns) (Y : List (List Float)) (k a b o j : ℕ) → j < n → getD (verdicts M n live Y k a b o) j (Kept plusZero) ≡ verdictOf (stepsOf live Y (begun M n k a b o)) j
+verdict-is : (m n live : ℕ) (Y : List (List Float)) (k e o j : ℕ) → j < n → getD (verdicts m n live Y k e o) j (Kept plusZero) ≡ verdictOf (stepsOf Y (firstState m n k e o live)) j
 unfolding fullRun
-verdict-is M n live Y k a b o j h = tabulate-getD n (λ j. verdictOf (stepsOf live Y (begun M n k a b o)) j) j (Kept plusZero) h
+verdict-is m n live Y k e o j h = tabulate-getD n (λ j. verdictOf (stepsOf Y (firstState m n k e o live)) j) j (Kept plusZero) h
 
 module _ (n : ℕ) (idle : ℕ → Bool) where
   -- the idle columns as a set
@@ -73,139 +74,143 @@ module _ (n : ℕ) (idle : ℕ → Bool) where
   K-length : length K ≡ n
   K-length = tabulate-length n idle
 
-  module _ (M : ℕ) (live : Columns) (Y : List (List Float)) (k a b o : ℕ) where
-    -- no more idle columns are rejected than there are
-    few-idle : rejectedAmong idle (verdicts M n live Y k a b o) ≤ size K
-    few-idle = rejected-within n idle (verdicts M n live Y k a b o) K (verdicts-length M n live Y k a b o) K-length (λ j h t u. in-K j h t)
+  module _ (m live : ℕ) (Y : List (List Float)) (k e o : ℕ) where
+    abbrev start : State
+    start = firstState m n k e o live
 
-    module _ (sound : Sound n Y) (tall : length Y ≡ M) (broad : length live ≡ n) (sub : K ⊆ live) (pos : 0 < k) (seen : o < length Y)
-        (rare : allowance M a b < M) (wide : k ≤ size K) (v : ℕ) (low : v ≤ key (criticalValue k (allowance M a b) Y K)) where
-      obs : List Float
+    -- no more idle columns are rejected than there are
+    few-idle : rejectedAmong idle (verdicts m n live Y k e o) ≤ size K
+    few-idle = rejected-within n idle (verdicts m n live Y k e o) K (verdicts-length m n live Y k e o) K-length (λ j h t u. in-K j h t)
+
+    module _ (sound : Sound n Y) (sub : K ⊆ liveSet start) (pos : 0 < k) (seen : o < length Y)
+        (rare : e < length Y) (wide : k ≤ size K) (v : ℕ) (low : v ≤ key (criticalValue k e Y K)) where
+      abbrev obs : List Float
       obs = getD Y o []
 
       row : T (soundRow n obs)
-      unfolding obs
       row = all-getD (soundRow n) Y o [] seen sound
-
-      own : Sound (length live) Y
-      own = subst (λ (m : ℕ). Sound m Y) (sym broad) sound
 
       even : length K ≡ length (aboveKey v obs)
       even = K-length ∙ sym (aboveKey-length v obs ∙ sound-length n obs row)
 
       -- before step 1 nothing is rejected
-      start : Held live Y K k (allowance M a b) v obs (begun M n k a b o)
-      unfolding obs
-      start = record { fit = fitting; same-k = refl; same-e = ap (λ (m : ℕ). allowance m a b) tall; same-row = refl; inside = nothing; many = λ _ p. absurd (omega arith) }
+      held : size (K ∩ aboveKey v obs) < k → Held Y K v obs start
+      held few = record { sound = sound; seen = seen; same-row = refl; lives = sub; tolerance = pos; rare = rare; wide = wide; low = low; few = few; inside = nothing; many = λ _ p. absurd (omega arith) }
         where
-          fitting : Fitting live Y (begun M n k a b o)
-          fitting = record { wide = sym broad; seen = seen }
+          short : length K ≡ length (rejectedSet start)
+          short = K-length ∙ sym (rejected-length start)
 
-          R : Columns
-          R = rejectedSet (begun M n k a b o)
+          nothing : (K ∩ rejectedSet start) ⊆ (K ∩ aboveKey v obs)
+          nothing = ⊆-by (K ∩ rejectedSet start) (K ∩ aboveKey v obs) (length-∩ K (rejectedSet start) short ∙ sym (length-∩ K (aboveKey v obs) even))
+              (λ j t. absurd (subst (λ (c : Bool). T c) (first-empty m n k e o live j) (and-right (has K j) (has (rejectedSet start) j) (subst (λ (c : Bool). T c) (has-∩ K (rejectedSet start) short j) t))))
 
-          short : length K ≡ length R
-          short = K-length ∙ sym (rejected-length live Y (begun M n k a b o) own fitting ∙ broad)
+      above-all : size (K ∩ aboveKey v obs) < k → rejectedAmong idle (verdicts m n live Y k e o) ≤ size (K ∩ aboveKey v obs)
+      above-all few = rejected-within n idle (verdicts m n live Y k e o) (K ∩ aboveKey v obs) (verdicts-length m n live Y k e o) (length-∩ K (aboveKey v obs) even ∙ K-length)
+          (λ j h t u. rejected-above Y K v obs start (held few) j (in-K j h t) (subst (λ (w : Verdict). T (isRejected w)) (verdict-is m n live Y k e o j h) u))
 
-          nothing : (K ∩ R) ⊆ (K ∩ aboveKey v (getD Y o []))
-          nothing = ⊆-by (K ∩ R) (K ∩ aboveKey v (getD Y o [])) (length-∩ K R short ∙ sym (length-∩ K (aboveKey v (getD Y o [])) even))
-              (λ j t. absurd (subst (λ (c : Bool). T c) (begun-empty M n k a b o j) (and-right (has K j) (has R j) (subst (λ (c : Bool). T c) (has-∩ K R short j) t))))
-
-      above-all : size (K ∩ aboveKey v obs) < k → rejectedAmong idle (verdicts M n live Y k a b o) ≤ size (K ∩ aboveKey v obs)
-      above-all few = rejected-within n idle (verdicts M n live Y k a b o) (K ∩ aboveKey v obs) (verdicts-length M n live Y k a b o) (length-∩ K (aboveKey v obs) even ∙ K-length)
-          (λ j h t u. rejected-above live Y K k (allowance M a b) v obs own sub pos (omega arith) wide low few (begun M n k a b o) start
-          j (in-K j h t) (subst (λ (w : Verdict). T (isRejected w)) (verdict-is M n live Y k a b o j h) u))
-
-      -- where k or more idle columns are rejected, the idle k-max of the observed row is above v
-      bad-above : k ≤ rejectedAmong idle (verdicts M n live Y k a b o) → v < key (kMax k K (getD Y o []))
-      unfolding obs
+      -- where k or more idle columns are rejected, k idle values of the observed row are above v
+      bad-above : k ≤ rejectedAmong idle (verdicts m n live Y k e o) → k ≤ count (λ x. ltb v (key x)) (within K (getD Y o []))
       bad-above bad = go (decLe k (size (K ∩ aboveKey v obs)))
         where
-          go : Dec (k ≤ size (K ∩ aboveKey v obs)) → v < key (kMax k K obs)
-          go (yes h) = kMax-law k K obs (subst (λ (m : ℕ). T (soundRow m obs)) (sym K-length) row) pos wide v .1 (omega (arith, above-size K v obs))
+          go : Dec (k ≤ size (K ∩ aboveKey v obs)) → k ≤ count (λ x. ltb v (key x)) (within K obs)
+          go (yes h) = omega (arith, above-size K v obs)
           go (no h) = absurd (let f : size (K ∩ aboveKey v obs) < k = omega (arith, h) in omega (arith, above-all f))
 
--- ---- rows
+-- ---- rows, by the keys of their values at a set
 
--- at most e rows lie above the critical value
-few-rows : (n k e : ℕ) (X : List (List Float)) (K : Columns) → Sound n X → 0 < k → e < length X → count (λ row. ltb (key (criticalValue k e X K)) (key (kMax k K row))) X ≤ e
-few-rows n k e X K s pos rare =
-    not-below e (count (λ row. ltb v (key (kMax k K row))) X) (λ g. let b : v < v = criticalValue-law n k e X s pos rare K v .1 g in omega arith)
-  where
-    v : ℕ
-    v = key (criticalValue k e X K)
+abbrev pub keysAt : Columns → List Float → List ℕ
+keysAt K row = map key (within K row)
 
--- c(K) turns on the values at K alone, and on the rows' order not at all
-rows-bound : (n k e : ℕ) (X Y : List (List Float)) (K : Columns) → Sound n X → Sound n Y → 0 < k → e < length X → e < length Y
-    → ((p : List Float → Bool) → count p (map (within K) X) ≤ count p (map (within K) Y)) → key (criticalValue k e X K) ≤ key (criticalValue k e Y K)
-unfolding kMax
-rows-bound n k e X Y K s t pos rare rare′ h = not-below (key (criticalValue k e Y K)) (key (criticalValue k e X K)) (λ g.
-    let b : v < v = criticalValue-law n k e Y t pos rare′ K v .1 (omega (arith, criticalValue-law n k e X s pos rare K v .0 g, by-rows X, by-rows Y, h test)) in
-    omega arith)
-  where
-    v : ℕ
-    v = key (criticalValue k e Y K)
+-- k values or more are above v
+many-above : ℕ → ℕ → List ℕ → Bool
+many-above k v ks = leb k (count (ltb v) ks)
 
-    test : List Float → Bool
-    test xs = ltb v (key (kthLargest k xs))
+above-keys : (k v : ℕ) (K : Columns) (row : List Float) → many-above k v (keysAt K row) ≡ leb k (count (λ x. ltb v (key x)) (within K row))
+unfolding many-above
+above-keys k v K row = ap (leb k) (count-map key (ltb v) (within K row))
 
-    by-rows : (Z : List (List Float)) → count test (map (within K) Z) ≡ count (λ row. ltb v (key (kthLargest k (within K row)))) Z
-    by-rows Z = count-map (within K) test Z
+module _ (n k e : ℕ) (K : Columns) (len : length K ≡ n) (pos : 0 < k) (wide : k ≤ size K) where
+  -- c(K) is above v exactly where more than e rows have k values of K above v
+  critical-keys : (X : List (List Float)) → Sound n X → e < length X → (v : ℕ) → (v < key (criticalValue k e X K)) ↔ (e < count (many-above k v) (map (keysAt K) X))
+  critical-keys X s rare v = (λ h. omega (arith, law .0 h, same), λ h. law .1 (omega (arith, same)))
+    where
+      law : (v < key (criticalValue k e X K)) ↔ (e < count (λ row. ltb v (key (kMax k K row))) X)
+      law = criticalValue-law n k e X s pos rare K v
 
-kMax-same : (k : ℕ) (K : Columns) (r s : List Float) → within K r ≡ within K s → kMax k K r ≡ kMax k K s
-unfolding kMax
-kMax-same k K r s h = ap (kthLargest k) h
+      at-row : (row : List Float) → T (soundRow n row) → ltb v (key (kMax k K row)) ≡ many-above k v (keysAt K row)
+      at-row row t =
+          let l = kMax-law k K row (subst (λ (m : ℕ). T (soundRow m row)) (sym len) t) pos wide v in
+          same-test (ltb v (key (kMax k K row))) (many-above k v (keysAt K row))
+          (λ u. subst (λ (b : Bool). T b) (sym (above-keys k v K row)) (le→leb k (count (λ x. ltb v (key x)) (within K row)) (l .0 (ltb→lt v (key (kMax k K row)) u))))
+          (λ u. lt→ltb v (key (kMax k K row)) (l .1 (leb→le k (count (λ x. ltb v (key x)) (within K row)) (subst (λ (b : Bool). T b) (above-keys k v K row) u))))
+
+      same : count (λ row. ltb v (key (kMax k K row))) X ≡ count (many-above k v) (map (keysAt K) X)
+      same = count-same (soundRow n) (λ row. ltb v (key (kMax k K row))) (λ row. many-above k v (keysAt K row)) X at-row s ∙ sym (count-map (keysAt K) (many-above k v) X)
+
+  -- at most e rows lie above the critical value
+  few-rows : (X : List (List Float)) → Sound n X → e < length X → count (many-above k (key (criticalValue k e X K))) (map (keysAt K) X) ≤ e
+  few-rows X s rare =
+      let v = key (criticalValue k e X K) in
+      not-below e (count (many-above k v) (map (keysAt K) X)) (λ g. let b : v < v = critical-keys X s rare v .1 g in omega arith)
+
+  -- c(K) turns on the values at K alone, as numbers, and on the rows' order not at all
+  rows-bound : (X Y : List (List Float)) → Sound n X → Sound n Y → e < length X → e < length Y
+      → ((p : List ℕ → Bool) → count p (map (keysAt K) X) ≤ count p (map (keysAt K) Y)) → key (criticalValue k e X K) ≤ key (criticalValue k e Y K)
+  rows-bound X Y s t rare rare′ h = not-below (key (criticalValue k e Y K)) (key (criticalValue k e X K)) (λ g.
+      let v = key (criticalValue k e Y K) in
+      let b : v < v = critical-keys Y t rare′ v .1 (omega (arith, critical-keys X s rare v .0 g, h (many-above k v))) in
+      omega arith)
 
 -- ---- the theorem
 
 -- run g of a family over the table X: its own table has the idle rows of X in some order, and its observed row those of row g
-pub record Member (n : ℕ) (X : List (List Float)) (idle : ℕ → Bool) (live : Columns) (Y : List (List Float)) (o g : ℕ) : Type 0 where
+pub record Member (n : ℕ) (X : List (List Float)) (idle : ℕ → Bool) (live : ℕ) (Y : List (List Float)) (o g : ℕ) : Type 0 where
   pub sound : Sound n Y
   pub tall : length Y ≡ length X
-  pub broad : length live ≡ n
-  pub lives : tabulate n idle ⊆ live
+  pub lives : tabulate n idle ⊆ columnsOf n live
   pub seen : o < length Y
-  pub rows : (p : List Float → Bool) → count p (map (within (tabulate n idle)) X) ≤ count p (map (within (tabulate n idle)) Y)
-  pub row : within (tabulate n idle) (getD Y o []) ≡ within (tabulate n idle) (getD X g [])
+  pub rows : (p : List ℕ → Bool) → count p (map (keysAt (tabulate n idle)) X) ≤ count p (map (keysAt (tabulate n idle)) Y)
+  pub row : keysAt (tabulate n idle) (getD Y o []) ≡ keysAt (tabulate n idle) (getD X g [])
 
-module _ (n k a b : ℕ) (X : List (List Float)) (idle : ℕ → Bool) (live : ℕ → Columns) (Y : ℕ → List (List Float)) (o : ℕ → ℕ)
-    (sound : Sound n X) (pos : 0 < k) (rare : allowance (length X) a b < length X)
+module _ (n k e m : ℕ) (X : List (List Float)) (idle : ℕ → Bool) (live : ℕ → ℕ) (Y : ℕ → List (List Float)) (o : ℕ → ℕ)
+    (sound : Sound n X) (pos : 0 < k) (rare : e < length X)
     (member : (g : ℕ) → g < length X → Member n X idle (live g) (Y g) (o g) g) where
   v : ℕ
-  v = key (criticalValue k (allowance (length X) a b) X (K n idle))
+  v = key (criticalValue k e X (K n idle))
 
   bad : ℕ → Bool
-  bad g = leb k (rejectedAmong idle (verdicts (length X) n (live g) (Y g) k a b (o g)))
+  bad g = leb k (rejectedAmong idle (verdicts m n (live g) (Y g) k e (o g)))
 
-  -- a run that rejects k or more idle columns observes a row whose idle k-max is above c of the idle columns
-  bad-row : k ≤ size (K n idle) → (g : ℕ) → g < length X → T (bad g) → T (ltb v (key (kMax k (K n idle) (getD X g []))))
+  -- a run that rejects k or more idle columns observes a row with k idle values above c of the idle columns
+  bad-row : k ≤ size (K n idle) → (g : ℕ) → g < length X → T (bad g) → T (many-above k v (keysAt (K n idle) (getD X g [])))
   unfolding bad v
   bad-row wide g l t =
-      lt→ltb v (key (kMax k (K n idle) (getD X g [])))
-      (subst (λ (c : Float). v < key c) (kMax-same k (K n idle) (getD (Y g) (o g) []) (getD X g []) (m .row))
-      (bad-above n idle (length X) (live g) (Y g) k a b (o g) (m .sound) (m .tall) (m .broad) (m .lives) pos (m .seen) rare wide v
-      (rows-bound n k (allowance (length X) a b) X (Y g) (K n idle) sound (m .sound) pos rare (omega (arith, m .tall)) (m .rows))
-      (leb→le k (rejectedAmong idle (verdicts (length X) n (live g) (Y g) k a b (o g))) t)))
+      subst (λ (ks : List ℕ). T (many-above k v ks)) (q .row) (subst (λ (b : Bool). T b) (sym (above-keys k v (K n idle) (getD (Y g) (o g) [])))
+      (le→leb k (count (λ x. ltb v (key x)) (within (K n idle) (getD (Y g) (o g) [])))
+      (bad-above n idle m (live g) (Y g) k e (o g) (q .sound) (q .lives) pos (q .seen) (omega (arith, q .tall)) wide v
+      (rows-bound n k e (K n idle) (K-length n idle) pos wide X (Y g) sound (q .sound) rare (omega (arith, q .tall)) (q .rows))
+      (leb→le k (rejectedAmong idle (verdicts m n (live g) (Y g) k e (o g))) t))))
     where
-      m : Member n X idle (live g) (Y g) (o g) g
-      m = member g l
+      q : Member n X idle (live g) (Y g) (o g) g
+      q = member g l
 
-  pub general : runsThatReject k (length X) idle (λ g. fullRun (live g) (Y g) (begun (length X) n k a b (o g)) .verdicts) ≤ allowance (length X) a b
+  pub general : runsThatReject k (length X) idle (λ g. fullRun (Y g) (firstState m n k e (o g) (live g)) .verdicts) ≤ e
   unfolding runsThatReject bad v
   general = go (decLe k (size (K n idle)))
     where
-      go : Dec (k ≤ size (K n idle)) → countBelow (length X) bad ≤ allowance (length X) a b
+      go : Dec (k ≤ size (K n idle)) → countBelow (length X) bad ≤ e
       go (yes wide) =
           omega (
             arith,
-            countBelow-le (length X) bad (λ g. ltb v (key (kMax k (K n idle) (getD X g [])))) (bad-row wide),
-            countBelow-list (λ row. ltb v (key (kMax k (K n idle) row))) X [],
-            few-rows n k (allowance (length X) a b) X (K n idle) sound pos rare,
+            countBelow-le (length X) bad (λ g. many-above k v (keysAt (K n idle) (getD X g []))) (bad-row wide),
+            countBelow-list (λ row. many-above k v (keysAt (K n idle) row)) X [],
+            count-map (keysAt (K n idle)) (many-above k v) X,
+            few-rows n k e (K n idle) (K-length n idle) pos wide X sound rare,
           )
       go (no narrow) =
           omega (
             arith,
             countBelow-le (length X) bad (λ _. false)
-                (λ g l t. absurd (omega (arith, narrow, leb→le k (rejectedAmong idle (verdicts (length X) n (live g) (Y g) k a b (o g))) t, few-idle n idle (length X) (live g) (Y g) k a b (o g)))),
+                (λ g l t. absurd (omega (arith, narrow, leb→le k (rejectedAmong idle (verdicts m n (live g) (Y g) k e (o g))) t, few-idle n idle m (live g) (Y g) k e (o g)))),
             countBelow-none (length X),
           )

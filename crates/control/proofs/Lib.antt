@@ -3,3 +3,4 @@ pub mod General
 pub mod Reorder
 pub mod Tables
 pub mod Trials
+pub mod Answered

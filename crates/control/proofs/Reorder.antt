@@ -3,7 +3,7 @@ use Prim.Native.Nat.{ℕ, zero, suc, _+_, _≤_, _<_}
 use native.Mathlib.Omega.{arith}
 use native.Mathlib.Decide.{ℕ-discrete}
 use mathlib.Core.Path.{_≡_, refl, sym, ap, ap₂, _∙_, subst}
-use mathlib.Core.Bool.{Bool, true, false, not, cond, _&&_}
+use mathlib.Core.Bool.{Bool, true, false, not, _&&_}
 use mathlib.Core.List.{List, [], _∷_, map}
 use lib.ListN.{length, getD}
 use lib.Dec.{T, eqb}
@@ -11,8 +11,10 @@ use lib.Ieee.{Float, nan}
 use borrow.Author.Tests.{eq-eqb, ne-eqb}
 use Rattle.order.specs.Counting.{bit, count, countBelow}
 use Rattle.order.proofs.Counts.{bit-T, bit-yes, count-map, countBelow-le, countBelow-list}
-use Rattle.stepdown.specs.Columns.{Columns, within}
-use Rattle.stepdown.proofs.Sets.{has}
+use Rattle.order.proofs.Keys.{key}
+use Rattle.columns.specs.Columns.{Columns, within}
+use Rattle.columns.proofs.Sets.{has}
+use Rattle.control.proofs.General.{keysAt}
 
 -- ---- a one-to-one map meets no more than there are
 
@@ -63,31 +65,31 @@ count-inj (suc n) m τ q in-m inj =
 
 -- ---- rows that agree on a set
 
--- rows agree on a set where they agree at each of its columns
-pub within-same : (K : Columns) (r s : List Float) → length r ≡ length s → ((j : ℕ) → j < length r → T (has K j) → getD r j nan ≡ getD s j nan) → within K r ≡ within K s
+-- rows agree on a set, as numbers, where they agree at each of its columns
+pub keys-same : (K : Columns) (r s : List Float) → length r ≡ length s → ((j : ℕ) → j < length r → T (has K j) → key (getD r j nan) ≡ key (getD s j nan)) → keysAt K r ≡ keysAt K s
 unfolding within
-within-same [] r s l h = refl
-within-same (b ∷ K) [] [] l h = refl
-within-same (b ∷ K) [] (y ∷ s) l h = absurd (omega arith)
-within-same (b ∷ K) (x ∷ r) [] l h = absurd (omega arith)
-within-same (true ∷ K) (x ∷ r) (y ∷ s) l h =
-    ap₂ (λ (z : Float) (zs : List Float). z ∷ zs) (h 0 (omega arith) tt) (within-same K r s (omega arith) (λ j i t. h (suc j) (omega arith) t))
-within-same (false ∷ K) (x ∷ r) (y ∷ s) l h = within-same K r s (omega arith) (λ j i t. h (suc j) (omega arith) t)
+keys-same [] r s l h = refl
+keys-same (b ∷ K) [] [] l h = refl
+keys-same (b ∷ K) [] (y ∷ s) l h = absurd (omega arith)
+keys-same (b ∷ K) (x ∷ r) [] l h = absurd (omega arith)
+keys-same (true ∷ K) (x ∷ r) (y ∷ s) l h =
+    ap₂ (λ (z : ℕ) (zs : List ℕ). z ∷ zs) (h 0 (omega arith) tt) (keys-same K r s (omega arith) (λ j i t. h (suc j) (omega arith) t))
+keys-same (false ∷ K) (x ∷ r) (y ∷ s) l h = keys-same K r s (omega arith) (λ j i t. h (suc j) (omega arith) t)
 
 -- σ carries the rows of Y to those of X, on the set K, and τ undoes it
 pub reordered : (X Y : List (List Float)) (K : Columns) (σ τ : ℕ → ℕ) → length Y ≡ length X
     → ((i : ℕ) → i < length X → τ i < length X) → ((i : ℕ) → i < length X → σ (τ i) ≡ i)
-    → ((h : ℕ) → h < length X → within K (getD Y h []) ≡ within K (getD X (σ h) []))
-    → (p : List Float → Bool) → count p (map (within K) X) ≤ count p (map (within K) Y)
+    → ((h : ℕ) → h < length X → keysAt K (getD Y h []) ≡ keysAt K (getD X (σ h) []))
+    → (p : List ℕ → Bool) → count p (map (keysAt K) X) ≤ count p (map (keysAt K) Y)
 reordered X Y K σ τ len in-X back rows p =
     omega (
       arith,
-      count-map (within K) p X,
-      count-map (within K) p Y,
-      countBelow-list (λ r. p (within K r)) X [],
-      countBelow-list (λ r. p (within K r)) Y [],
-      countBelow-le (length X) (λ i. p (within K (getD X i []))) (λ i. p (within K (getD Y (τ i) [])))
-          (λ i l t. subst (λ (r : List Float). T (p r)) (sym (rows (τ i) (in-X i l) ∙ ap (λ (z : ℕ). within K (getD X z [])) (back i l))) t),
-      count-inj (length X) (length Y) τ (λ h. p (within K (getD Y h []))) (λ i l. omega (arith, in-X i l))
+      count-map (keysAt K) p X,
+      count-map (keysAt K) p Y,
+      countBelow-list (λ r. p (keysAt K r)) X [],
+      countBelow-list (λ r. p (keysAt K r)) Y [],
+      countBelow-le (length X) (λ i. p (keysAt K (getD X i []))) (λ i. p (keysAt K (getD Y (τ i) [])))
+          (λ i l t. subst (λ (r : List ℕ). T (p r)) (sym (rows (τ i) (in-X i l) ∙ ap (λ (z : ℕ). keysAt K (getD X z [])) (back i l))) t),
+      count-inj (length X) (length Y) τ (λ h. p (keysAt K (getD Y h []))) (λ i l. omega (arith, in-X i l))
           (λ i j l r e. sym (back i l) ∙ ap σ e ∙ back j r),
     )

@@ -1,51 +1,55 @@
 -- Demand 3 for tables.
-use Prim.Native.Nat.{ℕ, zero, suc, _+_, _*_, _≤_, _<_}
+use Prim.Native.Nat.{ℕ, _≤_, _<_}
 use native.Mathlib.Omega.{arith}
-use mathlib.Core.Path.{_≡_, refl, sym, ap, _∙_, subst}
-use mathlib.Core.Bool.{Bool, true, false}
-use mathlib.Core.List.{List, [], _∷_}
-use lib.ListN.{length, getD, take, drop, replicate, length-replicate}
+use mathlib.Core.Path.{_≡_, refl, sym, _∙_, subst}
+use mathlib.Core.Bool.{Bool, false}
+use mathlib.Core.List.{List, []}
+use lib.ListN.{length, getD, length-replicate}
 use lib.Dec.{T}
 use lib.Ieee.{Float, nan}
-use Rattle.stepdown.specs.Tables.{rowsOf, allowance}
-use Rattle.stepdown.specs.Runs.{begun, tabulate, fullRun, tableRun}
-use Rattle.stepdown.specs.Refusals.{tableRefusal}
-use Rattle.stepdown.proofs.Sets.{has, has-length, _⊆_, ⊆-by, has-all}
-use Rattle.stepdown.proofs.Tabulate.{tabulate-length, tabulate-getD}
-use Rattle.stepdown.proofs.Rows.{rowsOf-length, rowsOf-sound, row-entry}
-use Rattle.stepdown.proofs.Critical.{Sound, soundRow, sound-length}
-use Rattle.stepdown.proofs.Accepted.{Shape, Level, Accepted, accepted, allowance-lt}
+use Rattle.order.specs.Lists.{tabulate, rowsOf}
 use Rattle.order.proofs.Counts.{all-getD}
+use Rattle.order.proofs.Keys.{equal-key}
+use Rattle.order.proofs.Lists.{tabulate-length, tabulate-getD, rowsOf-length, row-entry}
+use Rattle.order.proofs.Rows.{soundRow, sound-length, sound-finite}
+use Rattle.refusals.specs.Limits.{allowance}
+use Rattle.columns.specs.Columns.{Columns, everyColumn, columnsOf, fullMask}
+use Rattle.columns.proofs.Sets.{has-length, _⊆_, ⊆-by, has-all}
+use Rattle.columns.proofs.Masks.{full-columns}
+use Rattle.runs.specs.Stepdown.{firstState, fullRun}
+use Rattle.runs.specs.Tables.{tableRun}
+use Rattle.stepdown.specs.Refusals.{tableRefusal}
+use Rattle.stepdown.proofs.Accepted.{Accepted, accepted, accepted-sound, accepted-rare}
+use Rattle.control.proofs.General.{keysAt, Member, general}
+use Rattle.control.proofs.Reorder.{keys-same, reordered}
 use Rattle.control.specs.Statements.{runsThatReject, entry, SameOn}
-use Rattle.control.proofs.General.{Member, general}
-use Rattle.control.proofs.Reorder.{within-same, reordered}
 
 -- a set of columns is among all
-pub in-all : (n : ℕ) (idle : ℕ → Bool) → tabulate n idle ⊆ replicate n true
-in-all n idle = ⊆-by (tabulate n idle) (replicate n true) (tabulate-length n idle ∙ sym (length-replicate n true))
-    (λ j t. subst (λ (b : Bool). T b) (sym (has-all n j (omega (arith, has-length (tabulate n idle) j t, tabulate-length n idle)))) tt)
-
-pub table-sound : (t : List Float) (rows columns k a b o : ℕ) → Accepted t rows columns k a b o → Sound columns (rowsOf rows columns t)
-table-sound t rows columns k a b o acc = rowsOf-sound rows columns t (acc .full) (acc .finitely)
+pub in-all : (n : ℕ) (idle : ℕ → Bool) → tabulate n idle ⊆ columnsOf n (fullMask n)
+in-all n idle = subst (λ (L : Columns). tabulate n idle ⊆ L) (sym (full-columns n))
+    (⊆-by (tabulate n idle) (everyColumn n) (tabulate-length n idle ∙ sym (length-replicate n _))
+    (λ j t. subst (λ (b : Bool). T b) (sym (has-all n j (omega (arith, has-length (tabulate n idle) j t, tabulate-length n idle)))) tt))
 
 module _ (rows columns k a b : ℕ) (t : List Float) (idle : ℕ → Bool) (runs : ℕ → List Float) where
-  X : List (List Float)
-  X = rowsOf rows columns t
+  module _ (w : List Float) (o : ℕ) (acc : Accepted w rows columns k a b o) (h : ℕ) (l : h < rows) where
+    row-sound : T (soundRow columns (getD (rowsOf rows columns w) h []))
+    row-sound = all-getD (soundRow columns) (rowsOf rows columns w) h [] (omega (arith, rowsOf-length rows columns w)) (accepted-sound w rows columns k a b o acc)
+
+    row-width : length (getD (rowsOf rows columns w) h []) ≡ columns
+    row-width = sound-length columns (getD (rowsOf rows columns w) h []) row-sound
+
+    entry-finite : (j : ℕ) → j < columns → T (Rattle.order.specs.Order.finite (getD (getD (rowsOf rows columns w) h []) j nan))
+    entry-finite j m = all-getD Rattle.order.specs.Order.finite (getD (rowsOf rows columns w) h []) j nan (omega (arith, row-width)) (sound-finite columns (getD (rowsOf rows columns w) h []) row-sound)
 
   -- the idle rows of a table that agrees with t on the idle columns
   idle-row : (u : List Float) (o p : ℕ) → Accepted t rows columns k a b o → Accepted u rows columns k a b p → SameOn idle rows columns t u
-      → (h : ℕ) → h < rows → Rattle.stepdown.specs.Columns.within (tabulate columns idle) (getD (rowsOf rows columns u) h []) ≡ Rattle.stepdown.specs.Columns.within (tabulate columns idle) (getD (rowsOf rows columns t) h [])
+      → (h : ℕ) → h < rows → keysAt (tabulate columns idle) (getD (rowsOf rows columns u) h []) ≡ keysAt (tabulate columns idle) (getD (rowsOf rows columns t) h [])
   unfolding entry
   idle-row u o p acc acc′ same h l =
-      within-same (tabulate columns idle) (getD (rowsOf rows columns u) h []) (getD (rowsOf rows columns t) h []) (width u p acc′ ∙ sym (width t o acc))
-      (λ j i q. let m : j < columns = omega (arith, width u p acc′) in
-      in-entry u h j l m ∙ same h j l m (subst (λ (c : Bool). T c) (tabulate-getD columns idle j false m) q) ∙ sym (in-entry t h j l m))
-    where
-      in-entry : (w : List Float) (h j : ℕ) → h < rows → j < columns → getD (getD (rowsOf rows columns w) h []) j nan ≡ entry w columns h j
-      in-entry w h j l m = row-entry w rows columns h j l m
-
-      width : (w : List Float) (q : ℕ) → Accepted w rows columns k a b q → length (getD (rowsOf rows columns w) h []) ≡ columns
-      width w q ac = sound-length columns (getD (rowsOf rows columns w) h []) (all-getD (soundRow columns) (rowsOf rows columns w) h [] (omega (arith, rowsOf-length rows columns w)) (table-sound w rows columns k a b q ac))
+      keys-same (tabulate columns idle) (getD (rowsOf rows columns u) h []) (getD (rowsOf rows columns t) h []) (row-width u p acc′ h l ∙ sym (row-width t o acc h l))
+      (λ j i q. let m : j < columns = omega (arith, row-width u p acc′ h l) in
+      equal-key (getD (getD (rowsOf rows columns u) h []) j nan) (getD (getD (rowsOf rows columns t) h []) j nan) (entry-finite u p acc′ h l j m) (entry-finite t o acc h l j m)
+      (rw (row-entry u rows columns h j nan l m, row-entry t rows columns h j nan l m) (same h j l m (subst (λ (c : Bool). T c) (tabulate-getD columns idle j false m) q))))
 
   pub tables : (o : ℕ) → tableRefusal t rows columns k a b o ≡ 0
       → ((g : ℕ) → g < rows → tableRefusal (runs g) rows columns k a b g ≡ 0)
@@ -53,9 +57,9 @@ module _ (rows columns k a b : ℕ) (t : List Float) (idle : ℕ → Bool) (runs
       → runsThatReject k rows idle (λ g. tableRun (runs g) rows columns k a b g .verdicts) ≤ allowance rows a b
   unfolding tableRun
   tables o ok oks same =
-      subst (λ (M : ℕ). runsThatReject k M idle (λ g. fullRun (replicate columns true) (rowsOf rows columns (runs g)) (begun M columns k a b g) .verdicts) ≤ allowance M a b) tall
-      (general columns k a b (rowsOf rows columns t) idle (λ _. replicate columns true) (λ g. rowsOf rows columns (runs g)) (λ g. g)
-      (table-sound t rows columns k a b o acc) (acc .shaped .k-some) (subst (λ (M : ℕ). allowance M a b < M) (sym tall) (allowance-lt rows a b (acc .shaped .rows-some) (acc .levelled .proper))) member)
+      subst (λ (M : ℕ). runsThatReject k M idle (λ g. fullRun (rowsOf rows columns (runs g)) (firstState rows columns k (allowance rows a b) g (fullMask columns)) .verdicts) ≤ allowance rows a b) tall
+      (general columns k (allowance rows a b) rows (rowsOf rows columns t) idle (λ _. fullMask columns) (λ g. rowsOf rows columns (runs g)) (λ g. g)
+      (accepted-sound t rows columns k a b o acc) (acc .shaped .k-some) (omega (arith, tall, accepted-rare t rows columns k a b o acc)) member)
     where
       acc : Accepted t rows columns k a b o
       acc = accepted t rows columns k a b o ok
@@ -63,15 +67,14 @@ module _ (rows columns k a b : ℕ) (t : List Float) (idle : ℕ → Bool) (runs
       tall : length (rowsOf rows columns t) ≡ rows
       tall = rowsOf-length rows columns t
 
-      member : (g : ℕ) → g < length (rowsOf rows columns t) → Member columns (rowsOf rows columns t) idle (replicate columns true) (rowsOf rows columns (runs g)) g g
+      member : (g : ℕ) → g < length (rowsOf rows columns t) → Member columns (rowsOf rows columns t) idle (fullMask columns) (rowsOf rows columns (runs g)) g g
       member g l =
           let m : g < rows = omega (arith, tall) in
           let acc′ = accepted (runs g) rows columns k a b g (oks g m) in
           let own : length (rowsOf rows columns (runs g)) ≡ rows = rowsOf-length rows columns (runs g) in
           record {
-            sound = table-sound (runs g) rows columns k a b g acc′;
+            sound = accepted-sound (runs g) rows columns k a b g acc′;
             tall = own ∙ sym tall;
-            broad = length-replicate columns true;
             lives = in-all columns idle;
             seen = omega arith;
             rows = reordered (rowsOf rows columns t) (rowsOf rows columns (runs g)) (tabulate columns idle) (λ h. h) (λ h. h) (own ∙ sym tall) (λ i q. q) (λ i q. refl)

@@ -2,7 +2,7 @@
 --   rejectedAmong idle vs      how many of the columns that are called idle have the verdict rejected
 --   runsThatReject k n idle vs    of the n runs with the verdicts vs 0 to vs (n - 1), how many reject k or more idle columns
 --   entry t columns h j        the value of a table t in row h and column j
---   SameOn idle rows columns t u      two tables agree in all their idle columns
+--   SameOn idle rows columns t u      two tables agree in all their idle columns, as numbers
 --   difference t i j           the difference of offer i in pair j, both from 0
 --   Keeps t u                  two trials agree in all but their differences, at the places that the counts use
 --   ExchangedOn idle g t u     u's idle differences are those of t, that of pair j (from 0) with its sign changed where bit j of g is 1
@@ -14,12 +14,12 @@ use lib.ListN.{length, getD, take}
 use lib.Dec.{leb, T}
 use lib.Ieee.{Float, nan}
 use lib.IntN.{ℤ, pos}
-use Rattle.order.specs.Order.{plusZero}
+use Rattle.order.specs.Order.{plusZero, equal}
 use Rattle.order.specs.Counting.{countBelow}
-use Rattle.stepdown.specs.Columns.{inSet}
-use Rattle.stepdown.specs.declared.Verdict.{Verdict}
-use Rattle.stepdown.specs.declared.Verdict.the-variants.{Kept}
-use Rattle.verdicts.specs.Verdicts.{isRejected}
+use Rattle.columns.specs.Columns.{inSet}
+use Rattle.runs.specs.FullRuns.{isRejected}
+use Rattle.runs.specs.declared.Verdict.{Verdict}
+use Rattle.runs.specs.declared.Verdict.the-variants.{Kept}
 use Rattle.trial.specs.Exchange.{exchanged}
 use Rattle.trial.specs.declared.Trial.{Trial}
 
@@ -37,7 +37,7 @@ unfoldable pub entry : List Float → ℕ → ℕ → ℕ → Float
 entry t columns h j = getD t (h * columns + j) nan
 
 abbrev pub SameOn : (ℕ → Bool) → ℕ → ℕ → List Float → List Float → Type 0
-SameOn idle rows columns t u = (h j : ℕ) → h < rows → j < columns → T (idle j) → entry u columns h j ≡ entry t columns h j
+SameOn idle rows columns t u = (h j : ℕ) → h < rows → j < columns → T (idle j) → T (equal (entry u columns h j) (entry t columns h j))
 
 -- ---- trials
 

@@ -2,11 +2,11 @@
 use mathlib.Core.Path.{_≡_, refl}
 use mathlib.Core.List.{[], _∷_}
 use lib.Ieee.{lt, le}
-use Rattle.stepdown.specs.Answers.{acceptedRun}
-use Rattle.stepdown.specs.Examples.{P}
-use Rattle.trial.specs.Exchange.{trialRun}
+use Rattle.runs.specs.FullRuns.{acceptedRun}
+use Rattle.runs.specs.Examples.{P}
 use Rattle.trialfile.specs.Words.{bytesOf, signed}
 use Rattle.trialfile.specs.Examples.{wordsW}
+use Rattle.trialrun.specs.TrialRuns.{trialRun}
 use Rattle.host.specs.Calls.{trialVerdictsAnswer, trialVerdictsBuffer, tableVerdictsAnswer, tableVerdictsBuffer}
 
 -- one offer is rejected

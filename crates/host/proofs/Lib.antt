@@ -1,5 +1,5 @@
-pub mod Putting
-pub mod Returned
-pub mod Files
+pub mod StepBytes
+pub mod VerdictBuffer
 pub mod Tables
+pub mod Files
 pub mod Examples

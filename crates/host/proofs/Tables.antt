@@ -1,148 +1,131 @@
 -- Laws of the call on a table.
---   number-fits              100 plus a table's refusal is small
+--   table-fits               a table's refusal has two digits at most
 --   table-known              an accepted table has at most 32 columns, and its steps are small
 --   table-short, table-refused, table-done     each answer with its buffers: no byte for each column, another refusal, the steps are written
 use Prim.Native.Nat.{ℕ, zero, suc, _+_, _≤_, _<_}
 use native.Mathlib.Omega.{arith}
+use native.Mathlib.Decide.{decLe}
 use mathlib.Core.Path.{_≡_, refl, sym, ap, _∙_, subst}
-use mathlib.Core.Bool.{Bool, true, false, cond}
 use mathlib.Core.List.{List, [], _++_}
 use lib.ListN.{length}
-use lib.Dec.{T, eqb, ltb}
+use lib.Dec.{T}
 use lib.Ieee.{Float}
-use borrow.Author.Tests.{lt-ltb, le-ltb, ne-eqb}
-use Rattle.order.specs.Counting.{all}
-use Rattle.stepdown.specs.Buffers.{written, cleared, afterCall}
-use Rattle.stepdown.specs.Refusals.{firstRefusal, tooShort, tableChecks, tableRefusal, tableRunRefusal}
-use Rattle.stepdown.specs.Runs.{tableRun}
-use Rattle.stepdown.specs.Answers.{acceptedRun, blankRun, fullAnswer, fullWork}
-use Rattle.stepdown.specs.declared.FullRun.{FullRun}
-use Rattle.stepdown.specs.declared.Judged.{Judged}
-use Rattle.stepdown.proofs.Accepted.{accepted}
-use Rattle.stepdown.proofs.Calls.{table-ready}
-use Rattle.verdicts.specs.Verdicts.{rejectedCount, smallSteps}
-use Rattle.verdicts.proofs.StepNumbers.{answer-steps}
-use Rattle.stepdown.proofs.Refusals.{Numbered, orElse, first-append, first-most}
-use Rattle.host.specs.Calls.{stepBytes, tableVerdictsRefusal, tableVerdictsAnswer, tableVerdictsWork, tableVerdictsBuffer}
-use Rattle.host.proofs.Returned.{returned-refused, returned-count, buffer-kept, buffer-new}
+use Rattle.refusals.specs.Answers.{Checks, firstRefusal}
+use Rattle.refusals.specs.Buffers.{tooShort, written, cleared}
+use Rattle.refusals.proofs.Answers.{refused, answer-map, first-decides, first-short}
+use Rattle.runs.specs.FullRuns.{acceptedRun, refusedRun}
+use Rattle.runs.specs.Tables.{tableRun}
+use Rattle.runs.specs.declared.FullRun.{FullRun}
+use Rattle.stepdown.specs.Refusals.{tableChecks, tableRefusal, tableRunChecks, tableRunRefusal}
+use Rattle.stepdown.specs.Answers.{fullAnswer, fullWork}
+use Rattle.stepdown.proofs.Accepted.{accepted, table-accepted, table-room}
+use Rattle.verdicts.specs.Verdicts.{rejectedCount}
+use Rattle.host.specs.Calls.{stepBytes, tableVerdictsChecks, tableVerdictsAnswer, tableVerdictsWork, tableVerdictsBuffer}
+use Rattle.host.specs.Internal.{smallSteps}
+use Rattle.host.proofs.StepBytes.{table-steps}
+use Rattle.host.proofs.VerdictBuffer.{roomy, short, call-refused, call-done}
+use Rattle.refusals.proofs.Answers as answers
 
 module _ (t : List Float) (rows columns k a b observed : ℕ) where
+  abbrev own : Checks
+  own = tableChecks t rows columns k a b observed
+
+  abbrev ofRun : ℕ → Checks
+  ofRun work = tableRunChecks t rows columns k a b observed work
+
+  abbrev ofCall : ℕ → ℕ → Checks
+  ofCall work places = tableVerdictsChecks t rows columns k a b observed work places
+
   -- ---- the refusal
 
-  abbrev own : ℕ
-  own = tableRefusal t rows columns k a b observed
+  -- a table that is turned away is so before either buffer is measured
+  own-decides : (n : ℕ) → n ≡ firstRefusal own → (n ≡ 0 → ⊥) → (work places : ℕ) → (firstRefusal (ofRun work) ≡ n) × (firstRefusal (ofCall work places) ≡ n)
+  own-decides n e f work places =
+      let by = first-decides own (tooShort work rows) n e f in
+      (by, first-decides (ofRun work) (tooShort places columns) n (sym by) f)
 
-  abbrev ofRun : ℕ → ℕ
-  ofRun work = tableRunRefusal t rows columns k a b observed work
-
-  abbrev ofCall : ℕ → ℕ → ℕ
-  ofCall work places = tableVerdictsRefusal t rows columns k a b observed work places
-
-  numbered : Numbered (tableChecks t rows columns k a b observed)
-  unfolding tableChecks all
-  numbered = tt
-
-  -- the table decides, or else the buffers
-  run-decided : (work : ℕ) → ofRun work ≡ orElse own (cond (ltb work rows) 12 0)
-  unfolding tableRunRefusal tableRefusal firstRefusal
-  run-decided work = first-append (tableChecks t rows columns k a b observed) (tooShort work rows) numbered
-
-  call-decided : (work places : ℕ) → ofCall work places ≡ orElse own (cond (ltb work rows) 12 (cond (ltb places columns) 12 0))
-  unfolding tableVerdictsRefusal tableRefusal firstRefusal
-  call-decided work places = first-append (tableChecks t rows columns k a b observed) (tooShort work rows ++ tooShort places columns) numbered
-
-  -- with a byte for each column the call is refused as the run is
-  roomy : (work places : ℕ) → columns ≤ places → ofCall work places ≡ ofRun work
-  roomy work places h =
-      call-decided work places ∙ ap (λ (x : Bool). orElse own (cond (ltb work rows) 12 (cond x 12 0))) (le-ltb places columns h)
-      ∙ sym (run-decided work)
-
-  -- without, as a run with no work place is
-  cramped : (work places : ℕ) → places < columns → (ofCall work places ≡ ofRun 0) × (ofRun 0 ≡ 0 → ⊥)
-  cramped work places h =
-      let n = go own refl in
-      (call-decided work places ∙ ap (λ (x : Bool). orElse own (cond (ltb work rows) 12 (cond x 12 0))) (lt-ltb places columns h) ∙ n .0 ∙ sym (run-decided 0), λ z. n .1 (sym (run-decided 0) ∙ z))
+  -- with no byte for each column the call is refused as a run with no work place is
+  cramped : (work places : ℕ) → places < columns → firstRefusal (ofRun 0) ≡ firstRefusal (ofCall work places)
+  unfolding tableRefusal firstRefusal
+  cramped work places h = go (firstRefusal own) refl
     where
-      either : (x : Bool) → _≡_ {A = ℕ} (cond x 12 12) 12
-      either true = refl
-      either false = refl
+      either : 0 ≡ firstRefusal own → Dec (rows ≤ work) → 12 ≡ firstRefusal (ofCall work places)
+      either e (yes l) = short (ofRun work) places columns (e ∙ roomy own work rows 0 (λ n. n) l) h
+      either e (no l) = sym (first-decides (ofRun work) (tooShort places columns) 12 (short own work rows e (omega (arith, l))) (λ z. omega arith))
 
-      go : (n : ℕ) → own ≡ n → (orElse n (cond (ltb work rows) 12 12) ≡ orElse n (cond (ltb 0 rows) 12 0)) × (orElse n (cond (ltb 0 rows) 12 0) ≡ 0 → ⊥)
-      go zero e =
-          let s : _≡_ {A = ℕ} (cond (ltb 0 rows) 12 0) 12 = ap (λ (x : Bool). cond x 12 0) (lt-ltb 0 rows (accepted t rows columns k a b observed e .shaped .rows-some)) in
-          (either (ltb work rows) ∙ sym s, λ z. absurd (omega (arith, s, z)))
-      go (suc n) e = (refl, λ z. omega arith)
+      go : (n : ℕ) → n ≡ firstRefusal own → firstRefusal (ofRun 0) ≡ firstRefusal (ofCall work places)
+      go zero e = sym (short own 0 rows e (accepted t rows columns k a b observed (sym e) .shaped .rows-some)) ∙ either e (decLe rows work)
+      go (suc n) e = let f : suc n ≡ 0 → ⊥ = λ z. omega arith in own-decides (suc n) e f 0 places .0 ∙ sym (own-decides (suc n) e f work places .1)
+
+  -- and such a run is never accepted
+  never-free : firstRefusal (ofRun 0) ≡ 0 → ⊥
+  unfolding tableRunRefusal
+  never-free z = omega (arith, table-accepted t rows columns k a b observed 0 z .shaped .rows-some, table-room t rows columns k a b observed 0 z)
 
   -- ---- what a full run answers
 
-  number : (work : ℕ) → fullAnswer t rows columns k a b observed work .refusal ≡ ofRun work
-  unfolding fullAnswer acceptedRun
-  number work = go (ofRun work)
-    where
-      go : (n : ℕ) → cond (eqb n 0) (acceptedRun (tableRun t rows columns k a b observed)) (blankRun n) .refusal ≡ n
-      go zero = refl
-      go (suc n) = ap (λ (x : Bool). cond x (acceptedRun (tableRun t rows columns k a b observed)) (blankRun (suc n)) .refusal) (ne-eqb (suc n) 0 (λ e. omega arith))
-
   module _ (work : ℕ) (f : FullRun) (e : f ≡ fullAnswer t rows columns k a b observed work) where
-    refusal-is : f .refusal ≡ ofRun work
-    refusal-is = ap (λ (x : FullRun). x .refusal) e ∙ number work
+    number-is : f .refusal ≡ firstRefusal (ofRun work)
+    unfolding fullAnswer firstRefusal acceptedRun
+    number-is = ap (λ (x : FullRun). x .refusal) e ∙ answer-map (λ (x : FullRun). x .refusal) (ofRun work) (acceptedRun (tableRun t rows columns k a b observed)) refusedRun
 
-    pub number-fits : f .refusal ≤ 12
-    unfolding tableRunRefusal tableChecks all
-    number-fits = omega (arith, refusal-is, first-most 12 (tableChecks t rows columns k a b observed ++ tooShort work rows) tt)
+    pub table-fits : f .refusal ≤ 99
+    table-fits = omega (arith, number-is, first-short (ofRun work))
 
-    pub table-known : f .refusal ≡ 0 → (columns ≤ 32) × T (smallSteps (f .judged))
-    table-known z =
-        (table-ready t rows columns k a b observed work (sym refusal-is ∙ z) .cols-most, subst (λ (x : FullRun). T (smallSteps (x .judged))) (sym e) (answer-steps t rows columns k a b observed work))
-
-    judged-are : f .refusal ≡ 0 → f .judged ≡ acceptedRun (tableRun t rows columns k a b observed) .judged
+    taken : f .refusal ≡ 0 → f ≡ acceptedRun (tableRun t rows columns k a b observed)
     unfolding fullAnswer
-    judged-are z =
-        ap (λ (x : FullRun). x .judged) e
-        ∙ ap (λ (n : ℕ). cond (eqb n 0) (acceptedRun (tableRun t rows columns k a b observed)) (blankRun n) .judged) (sym refusal-is ∙ z)
+    taken z = e ∙ sym (answers.accepted (acceptedRun (tableRun t rows columns k a b observed)) refusedRun (ofRun work) (f .refusal) number-is z)
+
+    pub table-known : f .refusal ≡ 0 → (columns ≤ 32) × T (smallSteps (f .decisions))
+    unfolding tableRunRefusal
+    table-known z = (
+      table-accepted t rows columns k a b observed work (sym number-is ∙ z) .shaped .columns-most,
+      subst (λ (x : FullRun). T (smallSteps (x .decisions))) (sym (taken z)) (table-steps t rows columns k a b observed),
+    )
 
   -- ---- the answers
 
   module _ (work : List Float) (buf : List ℕ) where
+    abbrev checks : Checks
+    checks = ofCall (length work) (length buf)
+
     abbrev Done : ℕ → List Float → List ℕ → Type 0
     Done r w out =
         (r ≡ tableVerdictsAnswer t rows columns k a b observed (length work) (length buf))
         × ((w ≡ tableVerdictsWork t rows columns k a b observed work (length buf))
         × (out ≡ tableVerdictsBuffer t rows columns k a b observed (length work) buf))
 
-    turned-away : (n : ℕ) → (n ≡ 0 → ⊥) → ofCall (length work) (length buf) ≡ n → Done (100 + n) work buf
+    refused-by : (n : ℕ) → n ≡ firstRefusal checks → (n ≡ 0 → ⊥) → Done (100 + n) work buf
     unfolding tableVerdictsAnswer tableVerdictsWork tableVerdictsBuffer
-    turned-away n z q =
-        let r = ofCall (length work) (length buf) in
-        let g : r ≡ 0 → ⊥ = λ x. z (sym q ∙ x) in
-        (ap (λ (m : ℕ). 100 + m) (sym q) ∙ returned-refused r _ g, (buffer-kept r _ work g, buffer-kept r _ buf g))
+    refused-by n q f =
+        let d = call-refused checks columns (acceptedRun (tableRun t rows columns k a b observed) .decisions) buf n q f in
+        (d .0, (refused (cleared rows work) (λ _. work) checks n q f, d .1))
 
     module _ (h : length buf < columns) (f : FullRun) (e : f ≡ fullAnswer t rows columns k a b observed 0) where
+      -- the run with no work place has left nothing in it
       pub table-short : (front : List Float) → front ≡ fullWork t rows columns k a b observed [] → Done (100 + f .refusal) (front ++ work) buf
       unfolding fullWork
       table-short front p =
-          let c = cramped (length work) (length buf) h in
-          let q = refusal-is 0 f e in
-          let none = p ∙ ap (λ (x : Bool). cond x (cleared rows []) []) (ne-eqb (ofRun 0) 0 (c .1)) in
-          subst (λ (l : List Float). Done (100 + f .refusal) (l ++ work) buf) (sym none) (turned-away (f .refusal) (λ z. c .1 (sym q ∙ z)) (c .0 ∙ sym q))
+          let q = number-is 0 f e in
+          let z : f .refusal ≡ 0 → ⊥ = λ z. never-free (sym q ∙ z) in
+          let none : [] ≡ front = refused (cleared rows []) (λ _. []) (ofRun 0) (f .refusal) q z ∙ sym p in
+          subst (λ (l : List Float). Done (100 + f .refusal) (l ++ work) buf) none (refused-by (f .refusal) (q ∙ cramped (length work) (length buf) h) z)
 
     module _ (h : columns ≤ length buf) (f : FullRun) (e : f ≡ fullAnswer t rows columns k a b observed (length work)) (w : List Float) (p : w ≡ fullWork t rows columns k a b observed work) where
-      as-run : ofCall (length work) (length buf) ≡ f .refusal
-      as-run = roomy (length work) (length buf) h ∙ sym (refusal-is (length work) f e)
+      -- the call is refused as the run is, and the work buffer is the run's
+      as-run : f .refusal ≡ firstRefusal checks
+      unfolding firstRefusal
+      as-run = number-is (length work) f e ∙ roomy (ofRun (length work)) (length buf) columns 0 (λ n. n) h
 
-      -- the work buffer is the run's
       same-work : w ≡ tableVerdictsWork t rows columns k a b observed work (length buf)
       unfolding fullWork tableVerdictsWork
-      same-work = p ∙ ap (λ (n : ℕ). afterCall n (cleared rows work) work) (sym (roomy (length work) (length buf) h))
+      same-work = p ∙ roomy (ofRun (length work)) (length buf) columns (cleared rows work) (λ _. work) h
 
       pub table-refused : (f .refusal ≡ 0 → ⊥) → Done (100 + f .refusal) w buf
-      table-refused z = let d = turned-away (f .refusal) z as-run in (d .0, (same-work, d .1 .1))
+      table-refused z = let d = refused-by (f .refusal) as-run z in (d .0, (same-work, d .1 .1))
 
-      pub table-done : f .refusal ≡ 0 → (out : List ℕ) → out ≡ written (stepBytes columns (f .judged)) buf → (n : ℕ) → n ≡ rejectedCount columns (f .judged) → Done n w out
+      pub table-done : f .refusal ≡ 0 → (out : List ℕ) → out ≡ written (stepBytes columns (f .decisions)) buf → (n : ℕ) → n ≡ rejectedCount columns (f .decisions) → Done n w out
       unfolding tableVerdictsAnswer tableVerdictsBuffer
       table-done z out o n q =
-          let r = ofCall (length work) (length buf) in
-          let same = judged-are (length work) f e z in (
-            q ∙ ap (rejectedCount columns) same ∙ returned-count r _ (as-run ∙ z),
-            (same-work, o ∙ ap (λ (js : List Judged). written (stepBytes columns js) buf) same ∙ buffer-new r _ buf (as-run ∙ z)),
-          )
+          let d = call-done checks columns (acceptedRun (tableRun t rows columns k a b observed) .decisions) buf (f .refusal) as-run z columns (f .decisions) refl (ap (λ (x : FullRun). x .decisions) (taken (length work) f e z)) n q out o in
+          (d .0, (same-work, d .1))

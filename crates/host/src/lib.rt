@@ -1,23 +1,23 @@
 // The calls for hosts written in C. include/becardlarder.h documents them for a C programmer; a slice is a pointer and a length there.
 // The definitions are in specs/, their laws in proofs/.
-use stepdown::Judged;
+use runs::Decision;
 ghost use mathlib.Core.Path.{_≡_};
 ghost use Prim.Native.Nat.{_≤_};
 ghost use lib.Dec.{T};
 ghost use lib.ListN.{length};
-ghost use Rattle.stepdown.specs.Buffers.{written};
-ghost use Rattle.verdicts.specs.Verdicts.{smallSteps};
+ghost use Rattle.refusals.specs.Buffers.{written};
 ghost use Rattle.host.specs.Calls.{stepBytes, trialVerdictsAnswer, trialVerdictsBuffer, tableVerdictsAnswer, tableVerdictsWork, tableVerdictsBuffer};
+ghost use Rattle.host.specs.Internal.{smallSteps};
 
 // The rejecting steps of the first n verdicts into the first bytes of a buffer.
-fn put_steps(judged: [Judged; 32], n: usize, out: &mut [u8])
-    requires { ⌜ (n ≤ 32) × (n ≤ length (now out)) × T (smallSteps judged) ⌝ }
-    ensures { λ _. ⌜ now (out .exit) ≡ written (stepBytes n judged) (now (out .entry)) ⌝ }
+fn put_steps(decisions: [Decision; 32], n: usize, out: &mut [u8])
+    requires { ⌜ (n ≤ 32) × (n ≤ length (now out)) × T (smallSteps decisions) ⌝ }
+    ensures { λ _. ⌜ now (out .exit) ≡ written (stepBytes n decisions) (now (out .entry)) ⌝ }
 {
     let mut i: usize = 0;
     while i < n {
-        let j = judged[i];
-        let v = j.verdict;
+        let d = decisions[i];
+        let v = d.verdict;
         let step = verdicts::rejecting_step(v);
         out[i] = step as u8;
         i += 1;
@@ -31,7 +31,7 @@ pub extern "C" fn trial_verdicts(file: &[u8], verdicts: &mut [u8]) -> u32
     ensures { λ r. ⌜ r ≡ trialVerdictsAnswer (now (file .entry)) (length (now (verdicts .entry))) ⌝ }
     ensures { λ r. ⌜ now (verdicts .exit) ≡ trialVerdictsBuffer (now (file .entry)) (now (verdicts .entry)) ⌝ }
 {
-    let answer = filerun::full_run(file);
+    let answer = trialrun::file_run(file);
     let run = answer.run;
     let refusal = run.refusal;
     if refusal != 0 {
@@ -42,9 +42,9 @@ pub extern "C" fn trial_verdicts(file: &[u8], verdicts: &mut [u8]) -> u32
     if verdicts.len() < offers {
         return 112;
     }
-    let judged = run.judged;
-    put_steps(judged, offers, verdicts);
-    verdicts::rejected_count(judged, offers) as u32
+    let decisions = run.decisions;
+    put_steps(decisions, offers, verdicts);
+    verdicts::rejected_count(decisions, offers) as u32
 }
 
 // Runs a table. The result is the number of rejected columns, or 100 plus the refusal number.
@@ -76,7 +76,7 @@ pub extern "C" fn table_verdicts(
     if refusal != 0 {
         return 100 + refusal;
     }
-    let judged = run.judged;
-    put_steps(judged, columns, verdicts);
-    verdicts::rejected_count(judged, columns) as u32
+    let decisions = run.decisions;
+    put_steps(decisions, columns, verdicts);
+    verdicts::rejected_count(decisions, columns) as u32
 }

@@ -1,5 +1,5 @@
 -- Small laws of Booleans and tests that every layer uses.
-use Prim.Native.Nat.{ℕ, _≤_, _<_}
+use Prim.Native.Nat.{ℕ, zero, suc, _≤_, _<_}
 use native.Mathlib.Omega.{arith}
 use native.Mathlib.Decide.{decLt}
 use mathlib.Core.Path.{_≡_, refl, sym, ap, subst, _∙_}
@@ -93,3 +93,10 @@ not-yes b h = ap not h
 
 pub not-no : (b : Bool) → b ≡ true → not b ≡ false
 not-no b h = ap not h
+
+-- ---- digits of two
+
+pub digit-cases : (P : ℕ → Type 0) → P 0 → P 1 → (n : ℕ) → n < 2 → P n
+digit-cases P a b zero h = a
+digit-cases P a b (suc zero) h = b
+digit-cases P a b (suc (suc n)) h = absurd (omega arith)

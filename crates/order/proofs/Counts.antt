@@ -1,13 +1,13 @@
 -- Laws of counting.
 use Prim.Native.Nat.{ℕ, zero, suc, _+_, _-_, _≤_, _<_}
 use native.Mathlib.Omega.{arith}
-use mathlib.Core.Path.{_≡_, refl, sym, ap, _∙_}
-use mathlib.Core.Bool.{Bool, true, false, not, cond, _&&_, _||_}
+use mathlib.Core.Path.{_≡_, refl, ap}
+use mathlib.Core.Bool.{Bool, true, false, not, _&&_}
 use mathlib.Core.List.{List, [], _∷_, _++_, map}
 use lib.ListN.{length, getD}
 use lib.Dec.{T}
-use Rattle.order.proofs.Booleans.{and-left, and-right, and-both}
 use Rattle.order.specs.Counting.{bit, count, countBelow, all}
+use Rattle.order.proofs.Booleans.{and-left, and-right, and-both}
 
 -- ---- bits
 
@@ -62,6 +62,13 @@ module _ {A : Type 0} where
   all-getD p [] i d h t = absurd (omega arith)
   all-getD p (x ∷ l) zero d h t = and-left (p x) (all p l) t
   all-getD p (x ∷ l) (suc i) d h t = all-getD p l i d (omega arith) (and-right (p x) (all p l) t)
+
+  -- a member that passes is counted
+  pub count-some : (p : A → Bool) (l : List A) (i : ℕ) (d : A) → i < length l → T (p (getD l i d)) → 0 < count p l
+  unfolding count
+  count-some p [] i d h t = absurd (omega arith)
+  count-some p (x ∷ l) zero d h t = omega (arith, bit-yes (p x) t)
+  count-some p (x ∷ l) (suc i) d h t = omega (arith, count-some p l i d (omega arith) t)
 
   pub count-append : (p : A → Bool) (s t : List A) → count p (s ++ t) ≡ count p s + count p t
   unfolding count

@@ -1,15 +1,15 @@
 -- Finite values as natural numbers in the same order, so that facts on the order are facts on numbers.
 --   key x            the number x in units of the smallest positive value, shifted so that it is never negative
 --   smaller-key      x is smaller than y exactly where its key is
---   atMost-key       the same of at most
---   unsigned-same    finite values with one key differ at most in the sign of zero
+--   atMost-key       the same of at most; equal-key: equal numbers have one key
+--   withPlusZero-same    finite values with one key differ at most in the sign of zero
 use Prim.Native.Nat.{ℕ, zero, suc, _+_, _-_, _*_, _/_, _^_, _≤_, _<_, _%_}
 use native.Mathlib.Omega.{arith}
 use native.Mathlib.Nat.{mul-one, div-one, mul-assoc, mul-comm, mul-left-comm, mul-pos, mul-div-cancel, mul-lt-mul-of-pos-right, lt-of-mul-lt-mul-right, zero-mul, add-mul, le-of-eq, lt-of-le-of-lt}
 use native.Mathlib.Decide.{decLt, decLe}
 use mathlib.Core.Path.{_≡_, refl, sym, ap, ap₂, subst, _∙_}
 use mathlib.Core.Logic.{_↔_}
-use mathlib.Core.Bool.{Bool, true, false, not, cond, _&&_, _||_, Bool·beq}
+use mathlib.Core.Bool.{Bool, true, false, not, cond, _&&_, _||_}
 use lib.IntN.{ℤ, pos, negsuc}
 use lib.Dec.{ltb, leb, eqb, T, ltb→lt, leb→le, eqb→eq}
 use lib.Pow.{pow-add, pow-pos, pow-lt}
@@ -18,8 +18,8 @@ use lib.Ieee.Fits.{down-pos, and-l, and-r}
 use lib.Ieee.Scale.{overflow}
 use lib.Ieee.Bits.{ofBits-toBits}
 use borrow.Author.Tests.{lt-ltb, le-ltb, eq-eqb, ne-eqb}
-use Rattle.order.specs.Order.{smaller, atMost, finite, plusZero, unsigned}
-use Rattle.order.proofs.Booleans.{iff-ltb, leb-not}
+use Rattle.order.specs.Order.{smaller, atMost, equal, finite, plusZero, withPlusZero}
+use Rattle.order.proofs.Booleans.{iff-ltb, leb-not, and-left, and-right}
 
 -- ---- magnitudes, in any format
 
@@ -169,23 +169,30 @@ atMost-not (fin s m e) (fin t n d) p q = level-not s t (m * up e * down d) (n * 
 pub atMost-key : (x y : Float) → T (finite x) → T (finite y) → atMost x y ≡ leb (key x) (key y)
 atMost-key x y p q = atMost-not x y p q ∙ ap not (smaller-key y x q p) ∙ sym (leb-not (key x) (key y))
 
+-- values that are equal as numbers have one key
+pub equal-key : (x y : Float) → T (finite x) → T (finite y) → T (equal x y) → key x ≡ key y
+equal-key x y p q t =
+    let one = leb→le (key x) (key y) (subst (λ (b : Bool). T b) (atMost-key x y p q) (and-left (atMost x y) (atMost y x) t)) in
+    let two = leb→le (key y) (key x) (subst (λ (b : Bool). T b) (atMost-key y x q p) (and-right (atMost x y) (atMost y x) t)) in
+    omega (arith, one, two)
+
 -- ---- plus zero for either zero
 
 -- minus zero and zero are equal, and the one that is given is plus zero
-pub zeros-equal : (smaller (fin true 0 (pos 0)) plusZero ≡ false) × (smaller plusZero (fin true 0 (pos 0)) ≡ false) × (unsigned (fin true 0 (pos 0)) ≡ plusZero)
-unfolding lt eq div unsigned
+pub zeros-equal : (smaller (fin true 0 (pos 0)) plusZero ≡ false) × (smaller plusZero (fin true 0 (pos 0)) ≡ false) × (withPlusZero (fin true 0 (pos 0)) ≡ plusZero)
+unfolding lt eq div withPlusZero
 zeros-equal = (refl, refl, refl)
 
 pub zero-finite : T (finite plusZero)
 unfolding finite fits
 zero-finite = tt
 
-pub unsigned-finite : (x : Float) → T (finite x) → T (finite (unsigned x))
-unfolding unsigned finite fits
-unsigned-finite nan p = absurd p
-unsigned-finite (inf s) p = absurd p
-unsigned-finite (fin s zero e) p = tt
-unsigned-finite (fin s (suc m) e) p = p
+pub withPlusZero-finite : (x : Float) → T (finite x) → T (finite (withPlusZero x))
+unfolding withPlusZero finite fits
+withPlusZero-finite nan p = absurd p
+withPlusZero-finite (inf s) p = absurd p
+withPlusZero-finite (fin s zero e) p = tt
+withPlusZero-finite (fin s (suc m) e) p = p
 
 zero-mag : (f : Format) (e : ℤ) → mag f 0 e ≡ 0
 zero-mag f e = rw (zero-mul (up e), zero-mul (2 ^ low f)) (native.Mathlib.Nat.zero-div (down e))
@@ -194,20 +201,20 @@ zero-signed : (s : Bool) (B x : ℕ) → x ≡ 0 → signed B s x ≡ B
 zero-signed false B x h = omega arith
 zero-signed true B x h = omega arith
 
-pub unsigned-key : (x : Float) → key (unsigned x) ≡ key x
-unfolding unsigned key
-unsigned-key nan = refl
-unsigned-key (inf s) = refl
-unsigned-key (fin s zero e) =
+pub withPlusZero-key : (x : Float) → key (withPlusZero x) ≡ key x
+unfolding withPlusZero key
+withPlusZero-key nan = refl
+withPlusZero-key (inf s) = refl
+withPlusZero-key (fin s zero e) =
     zero-signed false (overflow binary64) (mag binary64 0 (pos 0)) (zero-mag binary64 (pos 0)) ∙ sym (zero-signed s (overflow binary64) (mag binary64 0 e) (zero-mag binary64 e))
-unsigned-key (fin s (suc m) e) = refl
+withPlusZero-key (fin s (suc m) e) = refl
 
-pub unsigned-twice : (x : Float) → unsigned (unsigned x) ≡ unsigned x
-unfolding unsigned
-unsigned-twice nan = refl
-unsigned-twice (inf s) = refl
-unsigned-twice (fin s zero e) = refl
-unsigned-twice (fin s (suc m) e) = refl
+pub withPlusZero-twice : (x : Float) → withPlusZero (withPlusZero x) ≡ withPlusZero x
+unfolding withPlusZero
+withPlusZero-twice nan = refl
+withPlusZero-twice (inf s) = refl
+withPlusZero-twice (fin s zero e) = refl
+withPlusZero-twice (fin s (suc m) e) = refl
 
 -- the bits of a value are made of its sign and its magnitude
 same-mag : (f : Format) (s : Bool) (m : ℕ) (e : ℤ) (n : ℕ) (d : ℤ) → T (fits f (fin s m e)) → T (fits f (fin s n d)) → mag f m e ≡ mag f n d → fin s m e ≡ fin s n d
@@ -225,24 +232,24 @@ no-mag f s (suc m) e t h =
     let q : mag f (suc m) e * down e ≡ 0 = ap (λ (z : ℕ). z * down e) h ∙ zero-mul (down e) in
     omega (arith, mag-val f s (suc m) e t, p, q))
 
-either-zero : (s t : Bool) (m n : ℕ) (e d : ℤ) → m ≡ 0 → n ≡ 0 → unsigned (fin s m e) ≡ unsigned (fin t n d)
-unfolding unsigned
+either-zero : (s t : Bool) (m n : ℕ) (e d : ℤ) → m ≡ 0 → n ≡ 0 → withPlusZero (fin s m e) ≡ withPlusZero (fin t n d)
+unfolding withPlusZero
 either-zero s t zero zero e d p q = refl
 either-zero s t zero (suc n) e d p q = absurd (omega arith)
 either-zero s t (suc m) n e d p q = absurd (omega arith)
 
-pub unsigned-same : (x y : Float) → T (finite x) → T (finite y) → key x ≡ key y → unsigned x ≡ unsigned y
+pub withPlusZero-same : (x y : Float) → T (finite x) → T (finite y) → key x ≡ key y → withPlusZero x ≡ withPlusZero y
 unfolding finite key
-unsigned-same nan y p q h = absurd p
-unsigned-same (inf s) y p q h = absurd p
-unsigned-same (fin s m e) nan p q h = absurd q
-unsigned-same (fin s m e) (inf t) p q h = absurd q
-unsigned-same (fin s m e) (fin t n d) p q h =
+withPlusZero-same nan y p q h = absurd p
+withPlusZero-same (inf s) y p q h = absurd p
+withPlusZero-same (fin s m e) nan p q h = absurd q
+withPlusZero-same (fin s m e) (inf t) p q h = absurd q
+withPlusZero-same (fin s m e) (fin t n d) p q h =
     go s t (overflow binary64) (mag binary64 m e) (mag binary64 n d) (mag-lt binary64 s m e p) (mag-lt binary64 t n d q) h
     (λ r i. by-sign r i) (λ i j. either-zero s t m n e d (no-mag binary64 s m e p i) (no-mag binary64 t n d q j))
   where
-    by-sign : s ≡ t → mag binary64 m e ≡ mag binary64 n d → unsigned (fin s m e) ≡ unsigned (fin t n d)
-    by-sign r i = ap unsigned (same-mag binary64 s m e n d p (subst (λ (b : Bool). T (fits binary64 (fin b n d))) (sym r) q) i ∙ ap (λ (b : Bool). fin b n d) r)
+    by-sign : s ≡ t → mag binary64 m e ≡ mag binary64 n d → withPlusZero (fin s m e) ≡ withPlusZero (fin t n d)
+    by-sign r i = ap withPlusZero (same-mag binary64 s m e n d p (subst (λ (b : Bool). T (fits binary64 (fin b n d))) (sym r) q) i ∙ ap (λ (b : Bool). fin b n d) r)
 
     go : (s t : Bool) (B x y : ℕ) → x < B → y < B → signed B s x ≡ signed B t y → {G : Type 0} → (s ≡ t → x ≡ y → G) → (x ≡ 0 → y ≡ 0 → G) → G
     go false false B x y a b h f g = f refl (omega arith)

@@ -1,11 +1,12 @@
 -- Values compare as f64 numbers: minus zero and zero are equal. Definitions only.
 --   smaller x y     x is smaller than y
 --   atMost x y      x is smaller than y or equal to it
+--   equal x y       x and y are equal as numbers
 --   finite x        x is a finite f64: neither infinite nor no number
 --   plusZero        the zero that is given for either zero
---   unsigned x      x, and plus zero for either zero
-use Prim.Native.Nat.{ℕ, zero, suc}
-use mathlib.Core.Bool.{Bool, true, false}
+--   withPlusZero x      x, and plus zero for either zero
+use Prim.Native.Nat.{zero, suc}
+use mathlib.Core.Bool.{Bool, true, false, _&&_}
 use lib.IntN.{pos}
 use lib.Ieee.{Float, nan, inf, fin, binary64, lt, le, fits}
 
@@ -14,6 +15,9 @@ smaller x y = lt x y
 
 abbrev pub atMost : Float → Float → Bool
 atMost x y = le x y
+
+abbrev pub equal : Float → Float → Bool
+equal x y = atMost x y && atMost y x
 
 unfoldable pub finite : Float → Bool
 unfolding fits
@@ -24,8 +28,8 @@ finite (fin s m e) = fits binary64 (fin s m e)
 abbrev pub plusZero : Float
 plusZero = fin false 0 (pos 0)
 
-unfoldable pub unsigned : Float → Float
-unsigned nan = nan
-unsigned (inf s) = inf s
-unsigned (fin s zero e) = plusZero
-unsigned (fin s (suc m) e) = fin s (suc m) e
+unfoldable pub withPlusZero : Float → Float
+withPlusZero nan = nan
+withPlusZero (inf s) = inf s
+withPlusZero (fin s zero e) = plusZero
+withPlusZero (fin s (suc m) e) = fin s (suc m) e

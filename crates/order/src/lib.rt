@@ -1,8 +1,7 @@
 // The order of f64 values: which are finite, and plus zero for either zero.
 // The definitions are in specs/, their laws in proofs/.
 ghost use mathlib.Core.Path.{_≡_};
-ghost use lib.ListN.{length};
-ghost use Rattle.order.specs.Order.{finite, unsigned};
+ghost use Rattle.order.specs.Order.{finite, withPlusZero};
 ghost use Rattle.order.specs.Counting.{all};
 
 // Whether x is neither infinite nor no number.
@@ -35,7 +34,7 @@ pub fn all_finite(xs: &[f64]) -> bool
 
 // x, and plus zero for either zero.
 pub fn plus_zero(x: f64) -> f64
-    ensures { λ r. ⌜ r ≡ unsigned x ⌝ }
+    ensures { λ r. ⌜ r ≡ withPlusZero x ⌝ }
 {
     if x == 0.0 {
         return 0.0;

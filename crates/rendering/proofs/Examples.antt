@@ -1,10 +1,10 @@
 -- W as printed: a starred example of document 01.
 use mathlib.Core.Path.{_≡_, refl}
 use lib.Ieee.{lt, le, toSigned}
-use Rattle.stepdown.specs.Answers.{acceptedRun}
-use Rattle.trial.specs.Exchange.{trialRun}
+use Rattle.runs.specs.FullRuns.{acceptedRun}
 use Rattle.trialfile.specs.Words.{bytesOf, signed}
 use Rattle.trialfile.specs.Examples.{wordsW}
+use Rattle.trialrun.specs.TrialRuns.{trialRun}
 use Rattle.rendering.specs.Ascii.{ascii}
 use Rattle.rendering.specs.Text.{printed, decimalUpTo}
 use Rattle.rendering.specs.Reports.{reportOf}

@@ -2,7 +2,7 @@
 --   report-fits        every text is at most that long
 use Prim.Native.Nat.{ℕ, zero, suc, _+_, _*_, _/_, _%_, _≤_, _<_}
 use native.Mathlib.Omega.{arith}
-use mathlib.Core.Path.{_≡_, refl, sym, ap, _∙_}
+use mathlib.Core.Path.{_≡_, refl}
 use mathlib.Core.Bool.{Bool, true, false, cond}
 use mathlib.Core.List.{List, [], _∷_, _++_}
 use lib.ListN.{length, getD, length-append}
@@ -10,21 +10,20 @@ use lib.Dec.{ltb, eqb}
 use borrow.Author.Tests.{eqb-true}
 use native.Mathlib.Nat.{suc-mul}
 use lib.IntN.{ℤ, pos, negsuc}
-use Rattle.stepdown.specs.Tables.{allowance}
+use Rattle.runs.specs.declared.Record.{Record}
+use Rattle.runs.specs.declared.Verdict.{Verdict}
+use Rattle.runs.specs.declared.Verdict.the-variants.{Rejected, Kept}
 use Rattle.verdicts.specs.Verdicts.{rejectedCount}
-use Rattle.stepdown.specs.declared.Record.{Record}
-use Rattle.stepdown.specs.declared.Verdict.{Verdict}
-use Rattle.stepdown.specs.declared.Verdict.the-variants.{Rejected, Kept}
-use Rattle.trial.specs.Exchange.{rowTotal}
 use Rattle.trial.specs.declared.Trial.{Trial}
-use Rattle.filerun.specs.FileRuns.{fileRun}
-use Rattle.filerun.specs.declared.FileRun.{FileRun}
+use Rattle.trialrun.specs.FileRuns.{fileRun}
+use Rattle.trialrun.specs.declared.FileRun.{FileRun}
 use Rattle.rendering.specs.Ascii.{ascii}
 use Rattle.rendering.specs.Text.{digit, printed, decimalUpTo, decimal, decimalInt, afterFirst, line}
-use Rattle.rendering.specs.Reports.{cents, headLine, stepLine, verdictWord, verdictStep, offerLine, linesTo, recordAt, judgedAt, stepLineAt, offerLineAt, trialText, refusedText, textOf, reportOf}
+use Rattle.rendering.specs.Reports.{cents, headLine, stepLine, verdictWord, verdictStep, offerLine, linesTo, recordAt, decisionAt, stepLineAt, offerLineAt, trialText, refusedText, reportOf}
 use Rattle.rendering.specs.Renderings.{longestReport}
-use Rattle.rendering.specs.Internal.{PrintableFile}
-use Rattle.rendering.proofs.Printing.{printable-file}
+use Rattle.rendering.specs.Internal.{textOf, PrintableFile}
+use Rattle.rendering.proofs.PrintableFiles.{printable-file}
+use Rattle.rendering.proofs.FileTexts.{text-is}
 
 -- ---- numbers
 
@@ -92,17 +91,20 @@ unfolding trialText
 trial-fits f p =
     let t = f .trial in
     let r = f .run in
-    let end = line (ascii "end") (decimal (rejectedCount (t .offers) (r .judged)) ∷ []) in
+    let end = line (ascii "end") (decimal (rejectedCount (t .offers) (r .decisions)) ∷ []) in
     let steps = linesTo (r .steps) (stepLineAt r) in
     let offers = linesTo (t .offers) (offerLineAt t r) in
     let a : length steps ≤ r .steps * 48 = lines-most (r .steps) 48 (stepLineAt r) (λ i _. step-most (recordAt r i)) in
-    let b : length offers ≤ t .offers * 59 = lines-most (t .offers) 59 (offerLineAt t r) (λ i l. offer-most (getD (t .codes) i 0) (getD (t .digits) i 0) (judgedAt r i .verdict) (r .steps) (getD (r .counts) i 0) (p .digits-few i l)) in
-    omega (arith, length-append (headLine t) (steps ++ (offers ++ end)), length-append steps (offers ++ end), length-append offers end, a, b, head-most t, numbered-most (ascii "end") (rejectedCount (t .offers) (r .judged)) (omega arith), p .run-printable .few-steps, p .offers-most)
+    let b : length offers ≤ t .offers * 59 = lines-most (t .offers) 59 (offerLineAt t r) (λ i l. offer-most (getD (t .codes) i 0) (getD (t .digits) i 0) (decisionAt r i .verdict) (r .steps) (getD (r .counts) i 0) (p .digits-few i l)) in
+    omega (arith, length-append (headLine t) (steps ++ (offers ++ end)), length-append steps (offers ++ end), length-append offers end, a, b, head-most t, numbered-most (ascii "end") (rejectedCount (t .offers) (r .decisions)) (omega arith), p .run-printable .few-steps, p .offers-most)
+
+file-fits : (f : FileRun) → (f .run .refusal ≡ 0 → PrintableFile f) → length (textOf f) ≤ longestReport
+unfolding textOf
+file-fits f p = go (eqb (f .run .refusal) 0) (eqb-true (f .run .refusal) 0)
+  where
+    go : (b : Bool) → (b ≡ true → f .run .refusal ≡ 0) → length (cond b (trialText (f .trial) (f .run)) (refusedText (f .run .refusal))) ≤ longestReport
+    go true h = trial-fits f (p (h refl))
+    go false h = omega (arith, numbered-most (ascii "refused") (f .run .refusal) (omega arith))
 
 pub report-fits : (bytes : List ℕ) → length (reportOf bytes) ≤ longestReport
-unfolding reportOf textOf
-report-fits bytes = go (eqb (fileRun bytes .run .refusal) 0) (eqb-true (fileRun bytes .run .refusal) 0)
-  where
-    go : (b : Bool) → (b ≡ true → fileRun bytes .run .refusal ≡ 0) → length (cond b (trialText (fileRun bytes .trial) (fileRun bytes .run)) (refusedText (fileRun bytes .run .refusal))) ≤ longestReport
-    go true h = trial-fits (fileRun bytes) (printable-file bytes (h refl))
-    go false h = omega (arith, numbered-most (ascii "refused") (fileRun bytes .run .refusal) (omega arith))
+report-fits bytes = rw (← text-is bytes) (file-fits (fileRun bytes) (printable-file bytes (fileRun bytes) refl))

@@ -1,9 +1,10 @@
-pub mod Writing
+pub mod TextWrites
 pub mod Numbers
-pub mod Signed
-pub mod Composed
+pub mod Cents
+pub mod ReportLines
 pub mod Values
-pub mod Printing
-pub mod Rendered
+pub mod PrintableFiles
+pub mod FileTexts
 pub mod Lengths
+pub mod Rendered
 pub mod Examples

@@ -1,5 +1,5 @@
 -- Laws of numbers as text.
---   some, less, remainder                steps of a recursion over digits
+--   less, remainder                      steps of a recursion over digits
 --   product-fits                         M × a in 64 bits
 --   printed-none, printed-more           no digit is left; the last digit after the others
 --   decimal-none, decimal-one, -more     no digit is left; one digit; the last digit after the others
@@ -8,17 +8,13 @@ use native.Mathlib.Nat.{mul-le-mul}
 use native.Mathlib.Omega.{arith}
 use mathlib.Core.Path.{_≡_, refl, sym, ap, _∙_}
 use mathlib.Core.Bool.{Bool, cond}
-use mathlib.Core.List.{List, [], _∷_, _++_}
-use lib.Dec.{ltb}
+use mathlib.Core.List.{[], _++_}
 use borrow.Author.Tests.{lt-ltb, le-ltb}
+use Rattle.refusals.proofs.Limits.{positive}
 use Rattle.rendering.specs.Text.{digit, printed, decimalUpTo}
 
-pub some : (n : ℕ) → (n ≡ 0 → ⊥) → 0 < n
-some zero f = absurd (f refl)
-some (suc n) f = omega arith
-
 pub less : (n t : ℕ) → (n ≡ 0 → ⊥) → n ≡ t → n - 1 < t
-less n t f e = omega (arith, some n f)
+less n t f e = omega (arith, positive n f)
 
 pub remainder : (n : ℕ) → n % 10 < 10
 remainder n = omega arith

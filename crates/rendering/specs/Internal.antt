@@ -2,16 +2,18 @@
 --   Wrote before after at end ys     ys was written after the first `at` bytes and ends at `end`; bytes beyond are unchanged
 --   Printable r                      a full run with at most 32 steps, whose critical values are whole numbers
 --   FewDigits n ds                   the first n of these numbers of digits are at most 7
+--   textOf f                         the text for what a file's full run answers: the report, or the refusal
 --   PrintableFile f                  what is known of an accepted file's trial and run, so that the text fits
 use Prim.Native.Nat.{ℕ, _+_, _≤_, _<_}
 use mathlib.Core.Path.{_≡_}
+use mathlib.Core.Bool.{cond}
 use mathlib.Core.List.{List, _++_}
 use lib.ListN.{length, getD, take, drop}
-use lib.Dec.{T}
+use lib.Dec.{T, eqb}
 use lib.Ieee.{binary64, fits, inSigned}
-use Rattle.stepdown.specs.declared.FullRun.{FullRun}
-use Rattle.filerun.specs.declared.FileRun.{FileRun}
-use Rattle.rendering.specs.Reports.{recordAt}
+use Rattle.runs.specs.declared.FullRun.{FullRun}
+use Rattle.trialrun.specs.declared.FileRun.{FileRun}
+use Rattle.rendering.specs.Reports.{recordAt, trialText, refusedText}
 
 pub record Wrote (before after : List ℕ) (at end : ℕ) (ys : List ℕ) : Type 0 where
   pub ends : end ≡ at + length ys
@@ -25,6 +27,10 @@ pub record Printable (r : FullRun) : Type 0 where
 
 abbrev pub FewDigits : ℕ → List ℕ → Type 0
 FewDigits n ds = (i : ℕ) → i < n → getD ds i 0 ≤ 7
+
+unfoldable pub textOf : FileRun → List ℕ
+unfolding trialText
+textOf f = cond (eqb (f .run .refusal) 0) (trialText (f .trial) (f .run)) (refusedText (f .run .refusal))
 
 pub record PrintableFile (f : FileRun) : Type 0 where
   pub pairs-most : f .trial .pairs ≤ 9

@@ -5,32 +5,32 @@
 --   verdictWord v          the word for a verdict
 --   verdictStep last v     the step that rejected, or the last step
 --   offerLine ..           an offer: printed code, verdict, step, count
---   recordAt, judgedAt     the record of step i and the verdict of offer i, both from 0
+--   recordAt, decisionAt   the record of step i and the verdict of offer i, both from 0
 --   stepLineAt, offerLineAt     their lines
 --   linesTo n f            the lines f 0 to f (n - 1), one after the other
 --   trialText t r          the report of a trial with the full run r
 --   refusedText n          the text of a refusal
---   textOf f               the text for what a file's full run answers: the report, or the refusal
---   reportOf bytes         all that is printed for a file
+--   reportOf bytes         all that is printed for a file: the report of its trial, or its refusal
 use Prim.Native.Nat.{ℕ, zero, suc}
 use Prim.Native.String.{String}
-use mathlib.Core.Bool.{cond}
 use mathlib.Core.List.{List, [], _∷_, _++_}
 use lib.ListN.{getD}
-use lib.Dec.{eqb}
 use lib.IntN.{ℤ}
 use lib.Ieee.{Float, nan, toSigned}
-use Rattle.stepdown.specs.Tables.{allowance}
-use Rattle.stepdown.specs.declared.Record.{Record}
-use Rattle.stepdown.specs.declared.Verdict.{Verdict}
-use Rattle.stepdown.specs.declared.Verdict.the-variants.{Rejected, Kept}
-use Rattle.stepdown.specs.declared.FullRun.{FullRun}
-use Rattle.stepdown.specs.declared.Judged.{Judged}
+use Rattle.refusals.specs.Answers.{answer}
+use Rattle.refusals.specs.Limits.{allowance}
+use Rattle.runs.specs.FullRuns.{acceptedRun}
+use Rattle.runs.specs.declared.Record.{Record}
+use Rattle.runs.specs.declared.Verdict.{Verdict}
+use Rattle.runs.specs.declared.Verdict.the-variants.{Rejected, Kept}
+use Rattle.runs.specs.declared.FullRun.{FullRun}
+use Rattle.runs.specs.declared.Decision.{Decision}
 use Rattle.verdicts.specs.Verdicts.{rejectedCount}
 use Rattle.trial.specs.Exchange.{rowTotal}
 use Rattle.trial.specs.declared.Trial.{Trial}
-use Rattle.filerun.specs.FileRuns.{fileRun}
-use Rattle.filerun.specs.declared.FileRun.{FileRun}
+use Rattle.trialfile.specs.Words.{wordsOf}
+use Rattle.trialfile.specs.Files.{trialOf, fileChecks}
+use Rattle.trialrun.specs.TrialRuns.{trialRun}
 use Rattle.rendering.specs.Ascii.{ascii}
 use Rattle.rendering.specs.Text.{printed, decimal, decimalInt, line}
 
@@ -65,14 +65,14 @@ linesTo (suc n) f = linesTo n f ++ f n
 abbrev pub recordAt : FullRun → ℕ → Record
 recordAt r i = getD (r .records) i (record { step = 0; critical = nan })
 
-abbrev pub judgedAt : FullRun → ℕ → Judged
-judgedAt r i = getD (r .judged) i (record { verdict = Rejected 0 nan })
+abbrev pub decisionAt : FullRun → ℕ → Decision
+decisionAt r i = getD (r .decisions) i (record { verdict = Rejected 0 nan })
 
 abbrev pub stepLineAt : FullRun → ℕ → List ℕ
 stepLineAt r i = stepLine (recordAt r i)
 
 abbrev pub offerLineAt : Trial → FullRun → ℕ → List ℕ
-offerLineAt t r i = offerLine (getD (t .codes) i 0) (getD (t .digits) i 0) (judgedAt r i .verdict) (r .steps) (getD (r .counts) i 0)
+offerLineAt t r i = offerLine (getD (t .codes) i 0) (getD (t .digits) i 0) (decisionAt r i .verdict) (r .steps) (getD (r .counts) i 0)
 
 unfoldable pub trialText : Trial → FullRun → List ℕ
 unfolding linesTo rejectedCount allowance rowTotal
@@ -80,15 +80,13 @@ trialText t r =
     headLine t
     ++ (linesTo (r .steps) (stepLineAt r)
     ++ (linesTo (t .offers) (offerLineAt t r)
-    ++ line (ascii "end") (decimal (rejectedCount (t .offers) (r .judged)) ∷ [])))
+    ++ line (ascii "end") (decimal (rejectedCount (t .offers) (r .decisions)) ∷ [])))
 
 abbrev pub refusedText : ℕ → List ℕ
 refusedText n = line (ascii "refused") (decimal n ∷ [])
 
-unfoldable pub textOf : FileRun → List ℕ
-unfolding trialText
-textOf f = cond (eqb (f .run .refusal) 0) (trialText (f .trial) (f .run)) (refusedText (f .run .refusal))
-
 unfoldable pub reportOf : List ℕ → List ℕ
-unfolding fileRun textOf
-reportOf bytes = textOf (fileRun bytes)
+unfolding answer fileChecks trialOf wordsOf trialRun acceptedRun trialText
+reportOf bytes =
+    let t = trialOf (wordsOf bytes) in
+    answer (fileChecks bytes) (trialText t (acceptedRun (trialRun t))) refusedText

@@ -2,13 +2,12 @@
 mod lines; // the lines of a report
 mod text; // words and numbers in a byte buffer
 
-use filerun::FileRun;
+use trialrun::FileRun;
 ghost use mathlib.Core.Path.{_≡_};
 ghost use Prim.Native.Nat.{_≤_};
 ghost use lib.ListN.{length};
-ghost use Rattle.rendering.specs.Reports.{textOf};
 ghost use Rattle.rendering.specs.Renderings.{renderingOf, afterRendering};
-ghost use Rattle.rendering.specs.Internal.{Wrote, PrintableFile};
+ghost use Rattle.rendering.specs.Internal.{Wrote, textOf, PrintableFile};
 
 // What rendering answers: 0 and the length of the text, or 12 and 0 where the buffer is too short for it.
 pub struct Rendering {
@@ -30,8 +29,8 @@ fn compose(out: &mut [u8], f: FileRun) -> usize
     let at = lines::head(out, t);
     let at1 = lines::steps(out, at, run);
     let at2 = lines::offers(out, at1, t, run);
-    let judged = run.judged;
-    let n = verdicts::rejected_count(judged, t.offers);
+    let decisions = run.decisions;
+    let n = verdicts::rejected_count(decisions, t.offers);
     lines::numbered(out, at2, b"end", n)
 }
 
@@ -40,7 +39,7 @@ pub fn report(file: &[u8], out: &mut [u8]) -> Rendering
     ensures { λ r. ⌜ r ≡ renderingOf (now (file .entry)) (length (now (out .entry))) ⌝ }
     ensures { λ r. ⌜ now (out .exit) ≡ afterRendering (now (file .entry)) (now (out .entry)) ⌝ }
 {
-    let f = filerun::full_run(file);
+    let f = trialrun::file_run(file);
     let mut space = [0u8; 3000];
     let n = compose(&mut space, f);
     if out.len() < n {

@@ -1,20 +1,19 @@
 // The lines of a report, each put after the first `at` bytes.
 use crate::text;
-use stepdown::FullRun;
-use stepdown::Record;
-use stepdown::Verdict;
+use runs::FullRun;
+use runs::Record;
+use runs::Verdict;
 use trial::Trial;
 ghost use mathlib.Core.Path.{_≡_};
-ghost use mathlib.Core.List.{[], _∷_};
+ghost use mathlib.Core.List.{[], _∷_, _++_};
 ghost use Prim.Native.Nat.{_+_, _*_, _^_, _<_, _≤_};
 ghost use lib.ListN.{length};
 ghost use lib.Dec.{T};
 ghost use lib.Ieee.{binary64, fits, inSigned};
-ghost use Rattle.stepdown.specs.Tables.{allowance};
-ghost use Rattle.verdicts.specs.Verdicts.{rejectedCount};
+ghost use Rattle.refusals.specs.Limits.{allowance};
 ghost use Rattle.rendering.specs.Ascii.{ascii};
 ghost use Rattle.rendering.specs.Text.{decimal, line};
-ghost use Rattle.rendering.specs.Reports.{headLine, stepLine, verdictWord, verdictStep, offerLine, linesTo, stepLineAt, offerLineAt, refusedText};
+ghost use Rattle.rendering.specs.Reports.{headLine, stepLine, verdictWord, verdictStep, offerLine, linesTo, stepLineAt, offerLineAt};
 ghost use Rattle.rendering.specs.Internal.{Wrote, Printable, FewDigits};
 
 // M: the rows of a trial's table
@@ -26,7 +25,7 @@ fn rows(pairs: usize) -> usize
 }
 
 // e: of M rows, the number that may lie above a critical value
-fn allowed(m: usize, a: usize, b: usize) -> usize
+fn allowance(m: usize, a: usize, b: usize) -> usize
     requires { ⌜ (m ≤ 512) × (a ≤ 16383) × (0 < b) ⌝ }
     ensures { λ r. ⌜ r ≡ allowance m a b ⌝ }
 {
@@ -39,7 +38,7 @@ pub(crate) fn head(out: &mut [u8], t: Trial) -> usize
     ensures { λ r. ⌜ Wrote (now (out .entry)) (now (out .exit)) 0 r (headLine t) × (r ≤ 128) ⌝ }
 {
     let m = rows(t.pairs);
-    let e = allowed(m, t.a, t.b);
+    let e = allowance(m, t.a, t.b);
     let at = text::put_all(out, 0, b"trial");
     let at1 = text::put_field(out, at, t.pairs);
     let at2 = text::put_field(out, at1, t.offers);
@@ -60,23 +59,20 @@ fn step(out: &mut [u8], at: usize, m: Record) -> usize
     text::put(out, at3, b'\n')
 }
 
-fn verdict_word(out: &mut [u8], at: usize, v: Verdict) -> usize
-    requires { ⌜ at + 8 ≤ length (now out) ⌝ }
-    ensures { λ r. ⌜ Wrote (now (out .entry)) (now (out .exit)) at r (ascii (verdictWord v)) × (r ≤ at + 8) ⌝ }
+// the word for a verdict, and the step that rejected or the last step
+fn verdict(out: &mut [u8], at: usize, v: Verdict, last: usize) -> usize
+    requires { ⌜ at + 29 ≤ length (now out) ⌝ }
+    ensures { λ r. ⌜ Wrote (now (out .entry)) (now (out .exit)) at r (ascii (verdictWord v) ++ (ascii " " ++ decimal (verdictStep last v))) × (r ≤ at + 29) ⌝ }
 {
     match v {
-        Verdict::Rejected(_, _) => text::put_all(out, at, b"rejected"),
-        Verdict::Kept(_) => text::put_all(out, at, b"kept"),
-    }
-}
-
-// the step that rejected, or the last step
-fn verdict_step(v: Verdict, last: usize) -> usize
-    ensures { λ r. ⌜ r ≡ verdictStep last v ⌝ }
-{
-    match v {
-        Verdict::Rejected(step, _) => step,
-        Verdict::Kept(_) => last,
+        Verdict::Rejected(step, _) => {
+            let next = text::put_all(out, at, b"rejected");
+            text::put_field(out, next, step)
+        }
+        Verdict::Kept(_) => {
+            let next = text::put_all(out, at, b"kept");
+            text::put_field(out, next, last)
+        }
     }
 }
 
@@ -95,10 +91,9 @@ fn offer(
 {
     let at1 = text::put_printed(out, at, code, digits);
     let at2 = text::put(out, at1, b' ');
-    let at3 = verdict_word(out, at2, v);
-    let at4 = text::put_field(out, at3, verdict_step(v, last));
-    let at5 = text::put_field(out, at4, count);
-    text::put(out, at5, b'\n')
+    let at3 = verdict(out, at2, v, last);
+    let at4 = text::put_field(out, at3, count);
+    text::put(out, at4, b'\n')
 }
 
 // a word, a number and a line end
@@ -134,8 +129,8 @@ pub(crate) fn offers(out: &mut [u8], at: usize, t: Trial, run: FullRun) -> usize
     let mut next = at;
     let mut i: usize = 0;
     while i < n {
-        let j = run.judged[i];
-        let v = j.verdict;
+        let d = run.decisions[i];
+        let v = d.verdict;
         next = offer(
             out,
             next,

@@ -1,10 +1,8 @@
 // Text put into a byte buffer, part by part: each function writes after the first `at` bytes and answers where its text ends.
-ghost use mathlib.Core.Path.{_≡_};
 ghost use mathlib.Core.List.{[], _∷_, _++_};
-ghost use Prim.Native.Nat.{_+_, _^_, _<_, _≤_};
+ghost use Prim.Native.Nat.{_+_, _<_, _≤_};
 ghost use lib.ListN.{length};
 ghost use lib.Dec.{T};
-ghost use lib.IntN.{natAbs};
 ghost use lib.Ieee.{binary64, fits, inSigned};
 ghost use Rattle.rendering.specs.Ascii.{ascii};
 ghost use Rattle.rendering.specs.Text.{printed, decimalUpTo, decimal, decimalInt};
@@ -81,35 +79,16 @@ pub(crate) fn put_printed(out: &mut [u8], at: usize, code: usize, digits: usize)
     put_digit(out, next, code % 10)
 }
 
-// how far a whole number is from zero
-fn magnitude(z: i64) -> usize
-    requires { ⌜ natAbs z ≤ 2 ^ 53 ⌝ }
-    ensures { λ r. ⌜ r ≡ natAbs z ⌝ }
-{
-    if z < 0 {
-        return (0 - z) as usize;
-    }
-    z as usize
-}
-
-// a whole number: a minus sign before a negative one
-fn put_int(out: &mut [u8], at: usize, z: i64) -> usize
-    requires { ⌜ (at + 21 ≤ length (now out)) × (natAbs z ≤ 2 ^ 53) ⌝ }
-    ensures { λ r. ⌜ Wrote (now (out .entry)) (now (out .exit)) at r (decimalInt z) × (r ≤ at + 21) ⌝ }
-{
-    let m = magnitude(z);
-    if z < 0 {
-        let next = put(out, at, b'-');
-        return put_decimal(out, next, m);
-    }
-    put_decimal(out, at, m)
-}
-
-// a critical value after a space
+// a critical value in cents after a space: a minus sign before a negative one
 pub(crate) fn put_cents(out: &mut [u8], at: usize, c: f64) -> usize
     requires { ⌜ (at + 22 ≤ length (now out)) × T (fits binary64 c) × T (inSigned binary64 63 c) ⌝ }
     ensures { λ r. ⌜ Wrote (now (out .entry)) (now (out .exit)) at r (ascii " " ++ decimalInt (cents c)) × (r ≤ at + 22) ⌝ }
 {
+    let z = c as i64;
     let next = put(out, at, b' ');
-    put_int(out, next, c as i64)
+    if z < 0 {
+        let next1 = put(out, next, b'-');
+        return put_decimal(out, next1, (0 - z) as usize);
+    }
+    put_decimal(out, next, z as usize)
 }

@@ -1,7 +1,7 @@
 -- The counting laws: the k-th largest is above v exactly where at least k members are, and the m-th smallest where fewer than m are at most v.
 -- Values are compared by their keys, so that all reasoning on the order is arithmetic.
 --   above v xs, from v xs     how many members have a key larger than v, or no smaller than v
-use Prim.Native.Nat.{ℕ, zero, suc, _+_, _-_, _≤_, _<_, max}
+use Prim.Native.Nat.{ℕ, zero, suc, _+_, _-_, _≤_, _<_}
 use native.Mathlib.Omega.{arith}
 use native.Mathlib.Decide.{decLe}
 use mathlib.Core.Path.{_≡_, refl, sym, ap, ap₂, _∙_, subst}
@@ -12,21 +12,19 @@ use lib.ListN.{length}
 use lib.Dec.{ltb, leb, eqb, T, ltb→lt, lt→ltb, leb→le, le→leb, eqb→eq}
 use lib.Ieee.{Float}
 use borrow.Author.Tests.{lt-ltb, le-ltb, le-leb, lt-leb, eq-eqb, ne-eqb}
-use Rattle.order.specs.Order.{smaller, atMost, finite, plusZero, unsigned}
-use Rattle.order.proofs.Booleans.{same-test, true-T, and-left, and-right, and-both, not-below, not-within, leb-not}
-use Rattle.order.proofs.Keys.{key, smaller-key, atMost-key, unsigned-key, unsigned-same, unsigned-twice, unsigned-finite, zero-finite}
+use Rattle.order.specs.Order.{smaller, atMost, finite, withPlusZero}
 use Rattle.order.specs.Counting.{bit, count, all}
-use Rattle.select.specs.Rank.{firstThat, fromTop, fromBottom, kthLargest, mthSmallest}
-use Rattle.order.proofs.Counts.{bit-T, all-le, count-le, count-same, count-same-all, count-le-all, count-not, count-both, count-length}
+use Rattle.order.proofs.Booleans.{same-test, true-T, and-left, and-right, and-both, not-below, not-within, leb-not}
+use Rattle.order.proofs.Keys.{key, smaller-key, atMost-key, withPlusZero-key, withPlusZero-same, withPlusZero-twice, withPlusZero-finite, zero-finite}
+use Rattle.order.proofs.Rows.{Finite}
+use Rattle.order.proofs.Counts.{count-le, count-same, count-same-all, count-le-all, count-not, count-both, count-length}
+use Rattle.select.specs.Rank.{first, fromTop, fromBottom, kthLargest, mthSmallest}
 
 abbrev pub above : ℕ → List Float → ℕ
 above v xs = count (λ x. ltb v (key x)) xs
 
 abbrev pub from : ℕ → List Float → ℕ
 from v xs = count (λ x. leb v (key x)) xs
-
-abbrev pub Finite : List Float → Type 0
-Finite xs = T (all finite xs)
 
 -- ---- counts by keys
 
@@ -133,27 +131,27 @@ module _ (k : ℕ) (xs : List Float) (fs : Finite xs) where
           )
 
 -- what holds of each member that passes, with plus zero for either zero, holds of the first
-pub first-holds : (P : Float → Type 0) (r p : Float → Bool) (xs : List Float) → T (all r xs) → 0 < count p xs → ((x : Float) → T (r x) → T (p x) → P (unsigned x)) → P (firstThat p xs)
-unfolding count firstThat all
+pub first-holds : (P : Float → Type 0) (r p : Float → Bool) (xs : List Float) → T (all r xs) → 0 < count p xs → ((x : Float) → T (r x) → T (p x) → P (withPlusZero x)) → P (withPlusZero (first p xs))
+unfolding count first all
 first-holds P r p [] rs h f = absurd (omega arith)
 first-holds P r p (x ∷ xs) rs h f = go (p x) (λ g. first-holds P r p xs (and-right (r x) (all r xs) rs) g f) (f x (and-left (r x) (all r xs) rs)) h
   where
-    go : (b : Bool) → (0 < count p xs → P (firstThat p xs)) → (T b → P (unsigned x)) → 0 < bit b + count p xs → P (cond b (unsigned x) (firstThat p xs))
+    go : (b : Bool) → (0 < count p xs → P (withPlusZero (first p xs))) → (T b → P (withPlusZero x)) → 0 < bit b + count p xs → P (withPlusZero (cond b x (first p xs)))
     go true ih g h = g tt
     go false ih g h = ih (omega arith)
 
-pub first-same : (r p q : Float → Bool) (xs : List Float) → T (all r xs) → ((x : Float) → T (r x) → p x ≡ q x) → firstThat p xs ≡ firstThat q xs
-unfolding firstThat all
+pub first-same : (r p q : Float → Bool) (xs : List Float) → T (all r xs) → ((x : Float) → T (r x) → p x ≡ q x) → first p xs ≡ first q xs
+unfolding first all
 first-same r p q [] rs h = refl
 first-same r p q (x ∷ xs) rs h =
-    ap₂ (λ (b : Bool) (y : Float). cond b (unsigned x) y) (h x (and-left (r x) (all r xs) rs)) (first-same r p q xs (and-right (r x) (all r xs) rs) h)
+    ap₂ (λ (b : Bool) (y : Float). cond b x y) (h x (and-left (r x) (all r xs) rs)) (first-same r p q xs (and-right (r x) (all r xs) rs) h)
 
 -- ---- the k-th largest
 
 -- w is a finite value with no minus sign on zero that ranks k-th from the top
 pub record Ranks (k : ℕ) (xs : List Float) (w : Float) : Type 0 where
   pub finitely : T (finite w)
-  pub plain : unsigned w ≡ w
+  pub plain : withPlusZero w ≡ w
   pub few : above (key w) xs < k
   pub enough : k ≤ from (key w) xs
 
@@ -162,18 +160,18 @@ module _ (k : ℕ) (xs : List Float) (fs : Finite xs) (pos : 0 < k) (held : k �
   unfolding kthLargest
   kthLargest-ranks = first-holds (Ranks k xs) finite (fromTop k xs) xs fs (ranked k xs fs pos held) (λ x f t. there x f (subst (λ (b : Bool). T b) (fromTop-is k xs fs x f) t))
     where
-      there : (x : Float) → T (finite x) → T (ltb (above (key x) xs) k && leb k (from (key x) xs)) → Ranks k xs (unsigned x)
+      there : (x : Float) → T (finite x) → T (ltb (above (key x) xs) k && leb k (from (key x) xs)) → Ranks k xs (withPlusZero x)
       there x f t = record {
-        finitely = unsigned-finite x f;
-        plain = unsigned-twice x;
-        few = rw (unsigned-key x) (rank-few (above (key x) xs) (from (key x) xs) k t);
-        enough = rw (unsigned-key x) (rank-enough (above (key x) xs) (from (key x) xs) k t);
+        finitely = withPlusZero-finite x f;
+        plain = withPlusZero-twice x;
+        few = rw (withPlusZero-key x) (rank-few (above (key x) xs) (from (key x) xs) k t);
+        enough = rw (withPlusZero-key x) (rank-enough (above (key x) xs) (from (key x) xs) k t);
       }
 
   -- what holds of every member, with plus zero for either zero, holds of the k-th largest
-  pub kthLargest-holds : (p : Float → Bool) → T (all (λ x. p (unsigned x)) xs) → T (p (kthLargest k xs))
+  pub kthLargest-holds : (p : Float → Bool) → T (all (λ x. p (withPlusZero x)) xs) → T (p (kthLargest k xs))
   unfolding kthLargest
-  kthLargest-holds p t = first-holds (λ x. T (p x)) (λ x. p (unsigned x)) (fromTop k xs) xs t (ranked k xs fs pos held) (λ x h g. h)
+  kthLargest-holds p t = first-holds (λ x. T (p x)) (λ x. p (withPlusZero x)) (fromTop k xs) xs t (ranked k xs fs pos held) (λ x h g. h)
 
   pub kthLargest-law : (v : ℕ) → (v < key (kthLargest k xs)) ↔ (k ≤ above v xs)
   kthLargest-law v = (
@@ -184,7 +182,7 @@ module _ (k : ℕ) (xs : List Float) (fs : Finite xs) (pos : 0 < k) (held : k �
   -- whatever ranks so is the k-th largest
   pub kthLargest-is : (w : Float) → Ranks k xs w → w ≡ kthLargest k xs
   kthLargest-is w r =
-      sym (r .plain) ∙ unsigned-same w (kthLargest k xs) (r .finitely) (kthLargest-ranks .finitely) same ∙ kthLargest-ranks .plain
+      sym (r .plain) ∙ withPlusZero-same w (kthLargest k xs) (r .finitely) (kthLargest-ranks .finitely) same ∙ kthLargest-ranks .plain
     where
       same : key w ≡ key (kthLargest k xs)
       same = omega (
@@ -198,7 +196,7 @@ module _ (k : ℕ) (xs : List Float) (fs : Finite xs) (pos : 0 < k) (held : k �
 module _ (m : ℕ) (xs : List Float) (fs : Finite xs) (pos : 0 < m) (held : m ≤ length xs) where
   pub mthSmallest-top : mthSmallest m xs ≡ kthLargest (suc (length xs) - m) xs
   unfolding mthSmallest kthLargest fromBottom fromTop
-  mthSmallest-top = first-same finite (fromBottom m xs) (fromTop (suc (length xs) - m) xs) xs fs tests
+  mthSmallest-top = ap withPlusZero (first-same finite (fromBottom m xs) (fromTop (suc (length xs) - m) xs) xs fs tests)
     where
       tests : (v : Float) → T (finite v) → fromBottom m xs v ≡ fromTop (suc (length xs) - m) xs v
       tests v f =
@@ -220,7 +218,7 @@ module _ (m : ℕ) (xs : List Float) (fs : Finite xs) (pos : 0 < m) (held : m �
       law : (v < key (kthLargest (suc (length xs) - m) xs)) ↔ (suc (length xs) - m ≤ above v xs)
       law = kthLargest-law (suc (length xs) - m) xs fs (omega arith) (omega arith) v
 
-  pub mthSmallest-holds : (p : Float → Bool) → T (all (λ x. p (unsigned x)) xs) → T (p (mthSmallest m xs))
+  pub mthSmallest-holds : (p : Float → Bool) → T (all (λ x. p (withPlusZero x)) xs) → T (p (mthSmallest m xs))
   mthSmallest-holds p t = rw mthSmallest-top (kthLargest-holds (suc (length xs) - m) xs fs (omega arith) (omega arith) p t)
 
   -- whatever ranks so from the bottom is the m-th smallest
@@ -236,22 +234,22 @@ mthSmallest-above n e xs fs l h v = (λ g. omega (arith, keys-upTo xs v, law .0 
 
 -- ---- of finite values, whatever the rank
 
-first-finite : (p : Float → Bool) (xs : List Float) → Finite xs → T (finite (firstThat p xs))
-unfolding firstThat all
+first-finite : (p : Float → Bool) (xs : List Float) → Finite xs → T (finite (first p xs))
+unfolding first all
 first-finite p [] fs = zero-finite
 first-finite p (x ∷ xs) fs = go (p x) (first-finite p xs (and-right (finite x) (all finite xs) fs))
   where
-    go : (b : Bool) → T (finite (firstThat p xs)) → T (finite (cond b (unsigned x) (firstThat p xs)))
-    go true ih = unsigned-finite x (and-left (finite x) (all finite xs) fs)
+    go : (b : Bool) → T (finite (first p xs)) → T (finite (cond b x (first p xs)))
+    go true ih = and-left (finite x) (all finite xs) fs
     go false ih = ih
 
 pub kthLargest-finite : (k : ℕ) (xs : List Float) → Finite xs → T (finite (kthLargest k xs))
 unfolding kthLargest
-kthLargest-finite k xs fs = first-finite (fromTop k xs) xs fs
+kthLargest-finite k xs fs = withPlusZero-finite (first (fromTop k xs) xs) (first-finite (fromTop k xs) xs fs)
 
 pub mthSmallest-finite : (m : ℕ) (xs : List Float) → Finite xs → T (finite (mthSmallest m xs))
 unfolding mthSmallest
-mthSmallest-finite m xs fs = first-finite (fromBottom m xs) xs fs
+mthSmallest-finite m xs fs = withPlusZero-finite (first (fromBottom m xs) xs) (first-finite (fromBottom m xs) xs fs)
 
 -- the largest reaches what some member reaches
 pub largest-reaches : (xs : List Float) → Finite xs → (v : ℕ) → 0 < from v xs → v ≤ key (kthLargest 1 xs)
@@ -259,15 +257,6 @@ largest-reaches xs fs zero h = omega arith
 largest-reaches xs fs (suc v) h = kthLargest-law 1 xs fs (omega arith) (omega (arith, count-length (λ x. leb (suc v) (key x)) xs)) v .1 h
 
 -- a selected value has no minus sign on zero
-first-plain : (p : Float → Bool) (xs : List Float) → unsigned (firstThat p xs) ≡ firstThat p xs
-unfolding firstThat unsigned
-first-plain p [] = refl
-first-plain p (x ∷ xs) = go (p x) (first-plain p xs)
-  where
-    go : (b : Bool) → unsigned (firstThat p xs) ≡ firstThat p xs → unsigned (cond b (unsigned x) (firstThat p xs)) ≡ cond b (unsigned x) (firstThat p xs)
-    go true ih = unsigned-twice x
-    go false ih = ih
-
-pub mthSmallest-plain : (m : ℕ) (xs : List Float) → unsigned (mthSmallest m xs) ≡ mthSmallest m xs
+pub mthSmallest-plain : (m : ℕ) (xs : List Float) → withPlusZero (mthSmallest m xs) ≡ mthSmallest m xs
 unfolding mthSmallest
-mthSmallest-plain m xs = first-plain (fromBottom m xs) xs
+mthSmallest-plain m xs = withPlusZero-twice (first (fromBottom m xs) xs)

@@ -1,239 +1,209 @@
 -- The public calls: what their checks let by, and what they answer.
---   step-known       a step that is not refused has a run and a table that can be stepped
---   table-known      a full run that is not refused begins with such a run
---   begin-.., step-..    each answer is the definition's; begin-number, step-number: its number is the refusal's
-use Prim.Native.Nat.{ℕ, zero, suc, _+_, _-_, _*_, _^_, _≤_, _<_}
+--   step-judged        the order in which a step is judged
+--   step-known         a step that is not refused has a state that can be stepped
+--   begin-.., step-.., full-..     each answer is the definition's
+--   begin-told, step-told          the paper's number and values for each case of an answer
+use Prim.Native.Nat.{ℕ, _+_, _*_, _^_, _≤_, _<_}
 use native.Mathlib.Omega.{arith}
+use native.Mathlib.Nat.{mul-le-mul-right}
 use native.Mathlib.Decide.{decLe}
-use mathlib.Core.Path.{_≡_, refl, sym, ap, ap₂, _∙_}
-use mathlib.Core.Bool.{Bool, true, false, not, cond, _&&_, _||_}
-use mathlib.Core.List.{List, [], _∷_, _++_}
+use mathlib.Core.Path.{_≡_, refl, sym, ap, ap₂, _∙_, subst}
+use mathlib.Core.Bool.{Bool, true, false, not, cond}
+use mathlib.Core.List.{List}
 use lib.ListN.{length, drop, replicate}
-use lib.Dec.{ltb, leb, eqb}
-use lib.Pow.{pow-pos}
+use lib.Dec.{T, ltb, eqb}
 use lib.Ieee.{Float}
-use borrow.Author.Tests.{eq-eqb, ne-eqb, lt-ltb, ltb-false, leb-false, eqb-true, not-false}
-use Rattle.order.specs.Order.{finite, plusZero}
-use Rattle.order.specs.Counting.{all, count}
-use Rattle.order.proofs.Booleans.{true-T, never, or-passes}
-use Rattle.stepdown.specs.Tables.{rowsOf}
-use Rattle.stepdown.specs.Columns.{size, columnsOf, everyColumn}
-use Rattle.stepdown.specs.Runs.{begun, rejectedSet, after, recordOf}
-use Rattle.stepdown.specs.Refusals.{Checks, badShape, badLevel, badValue, beginRefusal, badFigures, badProgress, spoiled, stepRefusal, tableChecks, tableRunRefusal}
-use Rattle.stepdown.specs.Buffers.{cleared}
-use Rattle.stepdown.specs.Answers.{beginAnswer, refusalOfBeginning, stepAnswer, stepWork, refusalOfStep}
-use Rattle.stepdown.specs.Internal.{Ready, Going, advanced}
+use borrow.Author.Tests.{ltb-false}
+use Rattle.order.specs.Lists.{rowsOf}
+use Rattle.refusals.specs.Answers.{answer}
+use Rattle.refusals.specs.Limits.{badSizes, badLevel, allowance}
+use Rattle.refusals.specs.Buffers.{cleared}
+use Rattle.refusals.proofs.Answers.{NoneHolds, none-holds, accepted, refused, answer-map}
+use Rattle.refusals.proofs.Limits.{Sizes, sizes, level, allowance-lt}
+use Rattle.columns.specs.Columns.{Columns, size, _∖_, columnsOf, fullMask}
+use Rattle.columns.proofs.Sets.{has, has-length, has-all, size-left}
+use Rattle.columns.proofs.Masks.{columnsOf-length, full-columns, full-fits, size-none}
+use Rattle.runs.specs.Stepdown.{rejectedSet, firstState, step, fullRun, leftOver}
+use Rattle.runs.specs.FullRuns.{noRecord, acceptedRun, refusedRun}
+use Rattle.runs.specs.Tables.{tableRun}
+use Rattle.runs.specs.declared.State.{State}
+use Rattle.runs.specs.declared.Step.{Step}
+use Rattle.runs.specs.declared.FullRun.{FullRun}
+use Rattle.runs.proofs.Start.{full-size}
+use Rattle.engine.specs.Internal.{CanStep}
+use Rattle.stepdown.specs.Runs.{begun, stateOf, resume, nextRun, stepRecord}
+use Rattle.stepdown.specs.Refusals.{badValue, tableRunChecks, tableRunRefusal, beginChecks, beginRefusal, badFigures, spoiled, stepChecks, stepRefusal}
+use Rattle.stepdown.specs.Answers.{beginAnswer, stepAnswer, stepWork, fullAnswer, fullWork, told, toldByBeginning, toldByStep}
 use Rattle.stepdown.specs.declared.Run.{Run}
-use Rattle.stepdown.specs.declared.Step.{Step}
+use Rattle.stepdown.proofs.Accepted.{Accepted, accepted-rare, checked, full-length, all-finite}
+use Rattle.stepdown.proofs.Spoiled.{figures, Progress, progress, spoiled-none}
 use Rattle.stepdown.specs.declared.Beginning.the-variants as beginning
-use Rattle.stepdown.specs.declared.StepAnswer.{StepAnswer}
 use Rattle.stepdown.specs.declared.StepAnswer.the-variants as stepping
-use Rattle.stepdown.proofs.Accepted.{NoneHolds, none-holds, or-none, shape, level}
-use Rattle.stepdown.proofs.Refusals.{given-refused, given-done}
-use Rattle.stepdown.proofs.Spoiling.{Figures, figures, spoiled-none}
 
--- ---- what is known of a run that can be stepped
+-- ---- the stated order of a step: 14, 13, 9, 11, 12
 
-empty-size : (n : ℕ) → size (columnsOf n 0) ≡ 0
-unfolding columnsOf size count
-empty-size zero = refl
-empty-size (suc n) = omega (arith, empty-size n)
+pub step-judged : (t : List Float) (r : Run) (places : ℕ)
+    → stepRefusal t r places ≡ cond (spoiled r) 14 (cond (r .ended) 13 (cond (not (eqb (length t) (r .rows * r .columns))) 9 (cond (badValue t) 11 (cond (ltb places (r .rows)) 12 0))))
+unfolding stepRefusal
+step-judged t r places = refl
 
-record Progress (r : Run) : Type 0 where
-  inside : r .rejected < 2 ^ (r .columns)
-  steps-most : r .steps ≤ 32
-  fresh : r .steps ≡ 0 → r .rejected ≡ 0
-  behind : r .steps ≤ size (rejectedSet r)
-  many : 0 < r .steps → r .k ≤ size (rejectedSet r)
-  room : 0 < r .steps → size (rejectedSet r) < r .columns
+-- ---- figures that have passed their checks
 
-progress : (r : Run) → badProgress r ≡ false → r .ended ≡ false → Progress r
-unfolding badProgress
-progress r h d =
-    let n = size (rejectedSet r) in
-    let start = eqb (r .steps) 0 && (not (eqb (r .rejected) 0) || r .ended) in
-    let late = not (r .ended) && ltb n (r .steps) in
-    let few = not (r .ended) && (ltb 0 (r .steps) && (ltb n (r .k) || leb (r .columns) n)) in
-    let a = or-none (leb (2 ^ (r .columns)) (r .rejected)) (ltb 32 (r .steps) || (start || (late || few))) h in
-    let b = or-none (ltb 32 (r .steps)) (start || (late || few)) (a .1) in
-    let s = or-none start (late || few) (b .1) in
-    let l = or-none late few (s .1) in
-    record {
-      inside = leb-false (2 ^ (r .columns)) (r .rejected) (a .0);
-      steps-most = ltb-false 32 (r .steps) (b .0);
-      fresh = λ z. fresh-of (eqb (r .rejected) 0) (eqb-true (r .rejected) 0) (ap (λ (x : Bool). x && (not (eqb (r .rejected) 0) || r .ended)) (sym (eq-eqb (r .steps) 0 z)) ∙ s .0);
-      behind = ltb-false n (r .steps) (ap (λ (x : Bool). not x && ltb n (r .steps)) (sym d) ∙ l .0);
-      many = λ p. ltb-false n (r .k) (or-none (ltb n (r .k)) (leb (r .columns) n) (going n p (l .1)) .0);
-      room = λ p. leb-false (r .columns) n (or-none (ltb n (r .k)) (leb (r .columns) n) (going n p (l .1)) .1);
-    }
-  where
-    fresh-of : (x : Bool) → (x ≡ true → r .rejected ≡ 0) → (true && (not x || r .ended)) ≡ false → r .rejected ≡ 0
-    fresh-of true f e = f refl
-    fresh-of false f e = absurd (never true e tt)
+-- a table's size fits a usize, and so does M × a
+pub size-fits : (rows columns : ℕ) → rows ≤ 4096 → columns ≤ 32 → rows * columns < 2 ^ 64
+size-fits rows columns h k = omega (arith, mul-le-mul-right columns h)
 
-    going : (n : ℕ) → 0 < r .steps → (not (r .ended) && (ltb 0 (r .steps) && (ltb n (r .k) || leb (r .columns) n))) ≡ false → (ltb n (r .k) || leb (r .columns) n) ≡ false
-    going n p e = ap₂ (λ (x y : Bool). not x && (y && (ltb n (r .k) || leb (r .columns) n))) (sym d) (sym (lt-ltb 0 (r .steps) p)) ∙ e
+pub level-fits : (rows a b : ℕ) → badSizes 4096 32 rows 1 1 ≡ false → badLevel a b ≡ false → rows * a < 2 ^ 64
+level-fits rows a b h k = let l = level a b k in omega (arith, mul-le-mul-right a (sizes 4096 32 rows 1 1 h .rows-most), l .proper, l .b-most)
+
+pub level-some : (a b : ℕ) → badLevel a b ≡ false → 0 < b
+level-some a b h = omega (arith, level a b h .proper)
+
+pub rows-pass : (rows columns k : ℕ) → Sizes 4096 32 rows columns k → badSizes 4096 32 rows 1 1 ≡ false
+unfolding badSizes
+rows-pass rows columns k s = Rattle.refusals.proofs.Limits.neither (Rattle.refusals.proofs.Limits.within 1 4096 rows (s .rows-some) (s .rows-most)) refl
+
+-- ---- a run that can be stepped
+
+pub state-is : (r : Run) (e live : ℕ) → e ≡ allowance (r .rows) (r .a) (r .b) → live ≡ fullMask (r .columns)
+    → record { rows = r .rows; columns = r .columns; k = r .k; e = e; observed = r .observed; live = live; rejected = r .rejected; steps = r .steps; ended = r .ended } ≡ stateOf r
+state-is r e live p q = λ i. record { rows = r .rows; columns = r .columns; k = r .k; e = p i; observed = r .observed; live = q i; rejected = r .rejected; steps = r .steps; ended = r .ended }
+
+-- the columns that are left and the rejected ones are all
+pub sides : (r : Run) → size (leftOver (stateOf r)) + size (rejectedSet (stateOf r)) ≡ r .columns
+sides r =
+    ap (λ (K : Columns). size (K ∖ rejectedSet (stateOf r)) + size (rejectedSet (stateOf r))) (full-columns (r .columns))
+    ∙ subst (λ (n : ℕ). size (replicate n true ∖ rejectedSet (stateOf r)) + size (rejectedSet (stateOf r)) ≡ n) (columnsOf-length (r .columns) (r .rejected)) (size-left (rejectedSet (stateOf r)))
 
 module _ (t : List Float) (r : Run) (places : ℕ) (h : stepRefusal t r places ≡ 0) where
-  checks : Checks
-  checks = (spoiled r, 14) ∷ (r .ended, 13) ∷ (not (eqb (length t) (r .rows * r .columns)), 9) ∷ (badValue t, 11) ∷ (ltb places (r .rows), 12) ∷ []
-
-  none : NoneHolds checks
-  unfolding checks stepRefusal all
-  none = none-holds checks tt h
+  none : NoneHolds (stepChecks t r places)
+  unfolding stepRefusal
+  none = none-holds (stepChecks t r places) h
 
   pub step-unspoiled : spoiled r ≡ false
-  unfolding checks
   step-unspoiled = none .0
 
   pub step-open : r .ended ≡ false
-  unfolding checks
   step-open = none .1 .0
 
+  pub step-figures : badFigures r ≡ false
+  step-figures = spoiled-none r step-unspoiled .0
+
+  so-far : Progress r
+  so-far = progress r (spoiled-none r step-unspoiled .1) step-open
+
   -- each step so far has rejected a column
-  pub step-behind : r .steps ≤ size (rejectedSet r)
-  step-behind = progress r (spoiled-none r step-unspoiled .1) step-open .behind
+  pub step-behind : r .steps ≤ size (rejectedSet (stateOf r))
+  step-behind = so-far .behind
 
   pub step-room : r .rows ≤ places
-  unfolding checks
   step-room = ltb-false places (r .rows) (none .1 .1 .1 .1 .0)
 
-  pub step-known : Going t r
-  unfolding checks badValue rejectedSet
+  some-left : size (rejectedSet (stateOf r)) < r .columns
+  some-left = go (decLe 1 (r .steps))
+    where
+      go : Dec (0 < r .steps) → size (rejectedSet (stateOf r)) < r .columns
+      go (yes q) = so-far .room q
+      go (no q) = omega (arith, figures r step-figures .shaped .columns-some, ap (λ (s : ℕ). size (columnsOf (r .columns) s)) (so-far .fresh (omega (arith, q))), size-none (r .columns))
+
+  pub step-known : CanStep t (stateOf r)
   step-known =
-      let f = figures r (spoiled-none r step-unspoiled .0) in
-      let p = progress r (spoiled-none r step-unspoiled .1) step-open in
+      let f = figures r step-figures in
       record {
-        ready = record {
-          rows-most = f .shaped .rows-most;
-          cols-most = f .shaped .columns-most;
-          full = eqb-true (length t) (r .rows * r .columns) (not-false (eqb (length t) (r .rows * r .columns)) (none .1 .1 .0));
-          finitely = true-T (all finite t) (not-false (all finite t) (none .1 .1 .1 .0));
-          k-some = f .shaped .k-some;
-          k-most = f .shaped .k-most;
-        };
-        rows-some = f .shaped .rows-some;
-        held = f .shaped .k-held;
-        proper = f .levelled .proper;
-        b-most = f .levelled .b-most;
+        ready = checked t (r .rows) (r .columns) (r .k) (f .shaped) (full-length t (r .rows * r .columns) (none .1 .1 .0)) (all-finite t (none .1 .1 .1 .0));
+        rare = allowance-lt (r .rows) (r .a) (r .b) (f .shaped .rows-some) (f .levelled .proper);
         seen = f .seen;
-        inside = p .inside;
-        steps-most = p .steps-most;
-        fresh = p .fresh;
-        many = p .many;
-        some = room-of f p (decLe 1 (r .steps));
+        live-fits = full-fits (r .columns);
+        fits = so-far .fits;
+        inside = λ j u. live-all j (omega (arith, has-length (rejectedSet (stateOf r)) j u, columnsOf-length (r .columns) (r .rejected)));
+        steps-most = so-far .steps-most;
+        first = λ _. omega (arith, f .shaped .k-held, full-size (r .columns));
+        many = so-far .many;
+        left = omega (arith, sides r, some-left);
       }
     where
-      room-of : Figures r → Progress r → Dec (0 < r .steps) → size (columnsOf (r .columns) (r .rejected)) < r .columns
-      room-of f p (yes q) = p .room q
-      room-of f p (no q) = omega (arith, f .shaped .columns-some, ap (λ (s : ℕ). size (columnsOf (r .columns) s)) (p .fresh (omega (arith, q))), empty-size (r .columns))
+      live-all : (j : ℕ) → j < r .columns → T (has (columnsOf (r .columns) (fullMask (r .columns))) j)
+      live-all j l = subst (λ (b : Bool). T b) (sym (ap (λ (K : Columns). has K j) (full-columns (r .columns)) ∙ has-all (r .columns) j l)) tt
 
--- ---- what is known of a table that can be run
-
-module _ (t : List Float) (rows columns k a b observed places : ℕ) (h : tableRunRefusal t rows columns k a b observed places ≡ 0) where
-  conditions : Checks
-  conditions = (badShape rows columns k, 4) ∷ (badLevel a b, 3) ∷ (not (eqb (length t) (rows * columns)), 9) ∷ (leb rows observed, 10) ∷ (badValue t, 11) ∷ (ltb places rows, 12) ∷ []
-
-  clear : NoneHolds conditions
-  unfolding conditions tableRunRefusal tableChecks all
-  clear = none-holds conditions tt h
-
-  pub table-room : rows ≤ places
-  unfolding conditions
-  table-room = ltb-false places rows (clear .1 .1 .1 .1 .1 .0)
-
-  pub table-seen : observed < rows
-  unfolding conditions
-  table-seen = leb-false rows observed (clear .1 .1 .1 .0)
-
-  pub table-figures : badFigures (begun rows columns k a b observed) ≡ false
-  unfolding conditions badFigures
-  table-figures = sym (or-passes _ _ _ (clear .0) (or-passes _ _ _ (clear .1 .0) (sym (clear .1 .1 .1 .0))))
-
-  pub table-ready : Ready t rows columns k
-  unfolding conditions badValue
-  table-ready =
-      let s = shape rows columns k (clear .0) in
-      record {
-        rows-most = s .rows-most;
-        cols-most = s .columns-most;
-        full = eqb-true (length t) (rows * columns) (not-false (eqb (length t) (rows * columns)) (clear .1 .1 .0));
-        finitely = true-T (all finite t) (not-false (all finite t) (clear .1 .1 .1 .1 .0));
-        k-some = s .k-some;
-        k-most = s .k-most;
-      }
-
-  pub table-known : Going t (begun rows columns k a b observed)
-  unfolding conditions rejectedSet
-  table-known =
-      let s = shape rows columns k (clear .0) in
-      let l = level a b (clear .1 .0) in
-      record {
-        ready = table-ready;
-        rows-some = s .rows-some;
-        held = s .k-held;
-        proper = l .proper;
-        b-most = l .b-most;
-        seen = table-seen;
-        inside = pow-pos columns;
-        steps-most = omega arith;
-        fresh = λ _. refl;
-        many = λ p. absurd (omega arith);
-        some = omega (arith, s .columns-some, empty-size columns);
-      }
+  -- the same of the state as it is made
+  pub step-ready : (s : State) → s ≡ stateOf r → CanStep t s × (s .rows ≤ places)
+  step-ready s e = subst (λ (x : State). CanStep t x × (x .rows ≤ places)) (sym e) (step-known, step-room)
 
 -- ---- beginning
 
-module _ (rows columns k a b observed : ℕ) where
-  pub begin-refused : (n : ℕ) → n ≡ beginRefusal rows columns k a b observed → (n ≡ 0 → ⊥) → beginning.Refused n ≡ beginAnswer rows columns k a b observed
-  unfolding beginAnswer
-  begin-refused n e f = given-refused n _ e (beginning.Begun (begun rows columns k a b observed)) beginning.Refused f
+module _ (rows columns k a b observed n : ℕ) (e : n ≡ beginRefusal rows columns k a b observed) where
+  pub begin-refused : (n ≡ 0 → ⊥) → beginning.Refused n ≡ beginAnswer rows columns k a b observed
+  unfolding beginAnswer beginRefusal
+  begin-refused f = refused (beginning.Begun (begun rows columns k a b observed)) beginning.Refused (beginChecks rows columns k a b observed) n e f
 
-  pub begin-on : (n : ℕ) → n ≡ beginRefusal rows columns k a b observed → n ≡ 0 → beginning.Begun (begun rows columns k a b observed) ≡ beginAnswer rows columns k a b observed
-  unfolding beginAnswer
-  begin-on n e z = given-done n _ e (beginning.Begun (begun rows columns k a b observed)) beginning.Refused z
+  pub begin-on : n ≡ 0 → beginning.Begun (begun rows columns k a b observed) ≡ beginAnswer rows columns k a b observed
+  unfolding beginAnswer beginRefusal
+  begin-on z = accepted (beginning.Begun (begun rows columns k a b observed)) beginning.Refused (beginChecks rows columns k a b observed) n e z
 
 -- ---- a step
 
-module _ (t : List Float) (r : Run) (work : List Float) where
-  stepped : StepAnswer
-  stepped = stepping.Stepped (after (everyColumn (r .columns)) (rowsOf (r .rows) (r .columns) t) r) (recordOf (everyColumn (r .columns)) (rowsOf (r .rows) (r .columns) t) r)
+module _ (t : List Float) (r : Run) (work : List Float) (n : ℕ) (e : n ≡ stepRefusal t r (length work)) where
+  pub step-refused : (n ≡ 0 → ⊥) → stepping.Refused n ≡ stepAnswer t r (length work)
+  unfolding stepAnswer stepRefusal
+  step-refused f = refused (stepping.Stepped (nextRun t r) (stepRecord t r)) stepping.Refused (stepChecks t r (length work)) n e f
 
-  module _ (n : ℕ) (e : n ≡ stepRefusal t r (length work)) where
-    pub step-refused : (n ≡ 0 → ⊥) → stepping.Refused n ≡ stepAnswer t r (length work)
-    unfolding stepAnswer stepped
-    step-refused f = given-refused n _ e stepped stepping.Refused f
+  pub work-kept : (n ≡ 0 → ⊥) → work ≡ stepWork t r work
+  unfolding stepWork stepRefusal
+  work-kept f = refused (cleared (r .rows) work) (λ _. work) (stepChecks t r (length work)) n e f
 
-    pub work-kept : (n ≡ 0 → ⊥) → work ≡ stepWork t r work
-    unfolding stepWork
-    work-kept f = given-refused n _ e (cleared (r .rows) work) (λ _. work) f
+  pub step-on : (state : State) → state ≡ stateOf r → (s : Step) → n ≡ 0 → s ≡ step (rowsOf (state .rows) (state .columns) t) state → (q : Run) → q ≡ resume r (s .state) → stepping.Stepped q (s .logged) ≡ stepAnswer t r (length work)
+  unfolding stepAnswer stepRefusal
+  step-on state y s z w q p =
+      ap (λ (x : Run). stepping.Stepped x (s .logged)) p
+      ∙ ap (λ (x : Step). stepping.Stepped (resume r (x .state)) (x .logged)) (w ∙ ap (λ (x : State). step (rowsOf (x .rows) (x .columns) t) x) y)
+      ∙ accepted (stepping.Stepped (nextRun t r) (stepRecord t r)) stepping.Refused (stepChecks t r (length work)) n e z
 
-    pub step-on : (s : Step) → n ≡ 0 → s ≡ advanced t r → stepping.Stepped (s .run) (s .mark) ≡ stepAnswer t r (length work)
-    unfolding stepAnswer stepped advanced
-    step-on s z q = ap (λ (x : Step). stepping.Stepped (x .run) (x .mark)) q ∙ given-done n _ e stepped stepping.Refused z
+  -- beyond the first rows the buffer is as it was, and those are cleared
+  pub work-cleared : (state : State) → state ≡ stateOf r → (w w′ : List Float) → n ≡ 0 → drop (state .rows) w ≡ drop (state .rows) work → w′ ≡ cleared (r .rows) w → w′ ≡ stepWork t r work
+  unfolding stepWork stepRefusal
+  work-cleared state y w w′ z d q =
+      Rattle.engine.proofs.FullRuns.work-cleared (r .rows) work w w′ (subst (λ (x : State). drop (x .rows) w ≡ drop (x .rows) work) y d) q ∙ accepted (cleared (r .rows) work) (λ _. work) (stepChecks t r (length work)) n e z
 
-    -- beyond the first rows the buffer is as it was, and those are cleared
-    pub work-cleared : (w w′ : List Float) → n ≡ 0 → drop (r .rows) w ≡ drop (r .rows) work → w′ ≡ cleared (r .rows) w → w′ ≡ stepWork t r work
-    unfolding stepWork
-    work-cleared w w′ z d q = q ∙ ap (λ (l : List Float). replicate (r .rows) plusZero ++ l) d ∙ given-done n _ e (cleared (r .rows) work) (λ _. work) z
+-- ---- a full run
 
--- ---- the paper's number for each case of an answer
+module _ (t : List Float) (rows columns k a b observed : ℕ) (work : List Float) (n : ℕ) (e : n ≡ tableRunRefusal t rows columns k a b observed (length work)) where
+  pub full-refused : (f : FullRun) → (n ≡ 0 → ⊥) → f ≡ refusedRun n → f ≡ fullAnswer t rows columns k a b observed (length work)
+  unfolding fullAnswer tableRunRefusal
+  full-refused f z q = q ∙ refused (acceptedRun (tableRun t rows columns k a b observed)) refusedRun (tableRunChecks t rows columns k a b observed (length work)) n e z
 
-pub begin-number : (rows columns k a b observed : ℕ) → refusalOfBeginning (beginAnswer rows columns k a b observed) ≡ beginRefusal rows columns k a b observed
+  pub full-work-kept : (n ≡ 0 → ⊥) → work ≡ fullWork t rows columns k a b observed work
+  unfolding fullWork tableRunRefusal
+  full-work-kept z = refused (cleared rows work) (λ _. work) (tableRunChecks t rows columns k a b observed (length work)) n e z
+
+  pub full-on : (f : FullRun) → n ≡ 0 → f ≡ acceptedRun (tableRun t rows columns k a b observed) → f ≡ fullAnswer t rows columns k a b observed (length work)
+  unfolding fullAnswer tableRunRefusal
+  full-on f z q = q ∙ accepted (acceptedRun (tableRun t rows columns k a b observed)) refusedRun (tableRunChecks t rows columns k a b observed (length work)) n e z
+
+  pub full-work-cleared : (w : List Float) → n ≡ 0 → w ≡ cleared rows work → w ≡ fullWork t rows columns k a b observed work
+  unfolding fullWork tableRunRefusal
+  full-work-cleared w z q = q ∙ accepted (cleared rows work) (λ _. work) (tableRunChecks t rows columns k a b observed (length work)) n e z
+
+-- what the engine asks of e and of the mask of all columns
+pub made-rare : (t : List Float) (rows columns k a b observed : ℕ) → Accepted t rows columns k a b observed → (e : ℕ) → e ≡ allowance rows a b → e < rows
+made-rare t rows columns k a b observed acc e q = omega (arith, accepted-rare t rows columns k a b observed acc)
+
+pub made-full : (columns live : ℕ) → live ≡ fullMask columns → live < 2 ^ columns
+made-full columns live q = omega (arith, full-fits columns)
+
+-- the engine's full run at e, over all columns
+pub full-is : (t : List Float) (rows columns k a b observed e live : ℕ) (f : FullRun) → e ≡ allowance rows a b → live ≡ fullMask columns
+    → f ≡ acceptedRun (fullRun (rowsOf rows columns t) (firstState rows columns k e observed live)) → f ≡ acceptedRun (tableRun t rows columns k a b observed)
+unfolding tableRun
+full-is t rows columns k a b observed e live f p q w = w ∙ ap₂ (λ (x y : ℕ). acceptedRun (fullRun (rowsOf rows columns t) (firstState rows columns k x observed y))) p q
+
+-- ---- the paper's number and values for each case of an answer
+
+pub begin-told : (rows columns k a b observed : ℕ) (r : Run)
+    → toldByBeginning r (beginAnswer rows columns k a b observed) ≡ answer (beginChecks rows columns k a b observed) (told 0 (begun rows columns k a b observed) noRecord) (λ n. told n r noRecord)
 unfolding beginAnswer
-begin-number rows columns k a b observed = go (beginRefusal rows columns k a b observed)
-  where
-    go : (n : ℕ) → refusalOfBeginning (cond (eqb n 0) (beginning.Begun (begun rows columns k a b observed)) (beginning.Refused n)) ≡ n
-    go zero = refl
-    go (suc n) = ap (λ (x : Bool). refusalOfBeginning (cond x (beginning.Begun (begun rows columns k a b observed)) (beginning.Refused (suc n)))) (ne-eqb (suc n) 0 (λ e. omega arith))
+begin-told rows columns k a b observed r = answer-map (toldByBeginning r) (beginChecks rows columns k a b observed) (beginning.Begun (begun rows columns k a b observed)) beginning.Refused
 
-pub step-number : (t : List Float) (r : Run) (places : ℕ) → refusalOfStep (stepAnswer t r places) ≡ stepRefusal t r places
+pub step-told : (t : List Float) (r : Run) (places : ℕ)
+    → toldByStep r (stepAnswer t r places) ≡ answer (stepChecks t r places) (told 0 (nextRun t r) (stepRecord t r)) (λ n. told n r noRecord)
 unfolding stepAnswer
-step-number t r places = go (stepRefusal t r places)
-  where
-    done : StepAnswer
-    done = stepping.Stepped (after (everyColumn (r .columns)) (rowsOf (r .rows) (r .columns) t) r) (recordOf (everyColumn (r .columns)) (rowsOf (r .rows) (r .columns) t) r)
-
-    go : (n : ℕ) → refusalOfStep (cond (eqb n 0) done (stepping.Refused n)) ≡ n
-    go zero = refl
-    go (suc n) = ap (λ (x : Bool). refusalOfStep (cond x done (stepping.Refused (suc n)))) (ne-eqb (suc n) 0 (λ e. omega arith))
+step-told t r places = answer-map (toldByStep r) (stepChecks t r places) (stepping.Stepped (nextRun t r) (stepRecord t r)) stepping.Refused

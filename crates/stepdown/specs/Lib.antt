@@ -1,10 +1,4 @@
-pub mod Tables
-pub mod Columns
-pub mod Method
 pub mod Runs
 pub mod Refusals
-pub mod Buffers
 pub mod Answers
 pub mod Stepping
-pub mod Internal
-pub mod Examples

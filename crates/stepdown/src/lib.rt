@@ -1,30 +1,19 @@
-// The stepdown method over a table of f64 values: the run as a value, its steps, its verdicts.
-// The definitions are in specs/, their laws in proofs/. No table is copied; the work buffer is lent.
-mod advance; // one step of an accepted run
-mod bits; // sets of columns as bits
-mod counts; // formula 16: how many rows reach an observed value
-mod kmax; // a row's k-max
-mod putback; // the walk over put-back sets
-mod quantile; // c(K): a quantile of the k-max values, with the work buffer
+// The stepdown method over a lent table of f64 values, at a level a/b: full runs, and runs taken step by step.
+// Public calls, which refuse bad input. No table is copied; the work buffer is lent.
 mod refusal; // what is turned away
-mod smallest; // the m-th smallest of a slice
-mod tracing; // all steps of a run, and the verdicts read off them
 
-// Conditions that a trial's values are judged by too.
-pub use refusal::bad_level;
-pub use refusal::bad_sizes;
-pub use refusal::outside;
+use runs::FullRun;
+use runs::Record;
+use runs::State;
 ghost use mathlib.Core.Path.{_≡_};
+ghost use mathlib.Core.Bool.{false};
 ghost use lib.ListN.{length};
-ghost use Rattle.stepdown.specs.Answers.{beginAnswer, stepAnswer, stepWork, blankRun, fullAnswer, fullWork};
+ghost use Rattle.stepdown.specs.Runs.{stateOf, resume};
+ghost use Rattle.stepdown.specs.Refusals.{badFigures};
+ghost use Rattle.stepdown.specs.Answers.{beginAnswer, stepAnswer, stepWork, fullAnswer, fullWork};
+ghost use Rattle.refusals.specs.Limits as limits;
 
-// What a step leaves behind (document 01: record): its number, from 1, and its critical value.
-pub struct Record {
-    pub step: usize,
-    pub critical: f64,
-}
-
-// A run, by value. The level is a/b; bit j of `rejected` says that column j is rejected.
+// A run (document 01), by value. The level is a/b; bit j of `rejected` says that column j is rejected.
 pub struct Run {
     pub rows: usize,
     pub columns: usize,
@@ -37,33 +26,6 @@ pub struct Run {
     pub ended: bool,
 }
 
-// One step: the run after it, and its record.
-pub struct Step {
-    pub run: Run,
-    pub mark: Record,
-}
-
-// A hypothesis (document 01: offer) is rejected, with the step and its critical value, or kept, with the last critical value.
-pub enum Verdict {
-    Rejected(usize, f64),
-    Kept(f64),
-}
-
-// A verdict in a struct of its own: an array of enums is no field.
-pub struct Judged {
-    pub verdict: Verdict,
-}
-
-// A full run: 0 or the refusal number; how many steps; a record for each step; a verdict and a count for each column.
-// Places that the steps and columns don't use are blank, and so are all of a refused run.
-pub struct FullRun {
-    pub refusal: u32,
-    pub steps: usize,
-    pub records: [Record; 32],
-    pub judged: [Judged; 32],
-    pub counts: [usize; 32],
-}
-
 // Beginning a run answers the run, or the refusal number.
 pub enum Beginning {
     Begun(Run),
@@ -74,6 +36,32 @@ pub enum Beginning {
 pub enum StepAnswer {
     Stepped(Run, Record),
     Refused(u32),
+}
+
+// e, where the level becomes a number of rows.
+fn allowance(rows: usize, a: usize, b: usize) -> usize
+    requires { ⌜ (limits.badSizes 4096 32 rows 1 1 ≡ false) × (limits.badLevel a b ≡ false) ⌝ }
+    ensures { λ e. ⌜ e ≡ limits.allowance rows a b ⌝ }
+{
+    rows * a / b
+}
+
+// The state that a run with good figures is in: its e, and all columns live.
+fn state_of(r: Run) -> State
+    requires { ⌜ badFigures r ≡ false ⌝ }
+    ensures { λ s. ⌜ s ≡ stateOf r ⌝ }
+{
+    State {
+        rows: r.rows,
+        columns: r.columns,
+        k: r.k,
+        e: allowance(r.rows, r.a, r.b),
+        observed: r.observed,
+        live: critical::full_mask(r.columns),
+        rejected: r.rejected,
+        steps: r.steps,
+        ended: r.ended,
+    }
 }
 
 impl Run {
@@ -105,6 +93,23 @@ impl Run {
         })
     }
 
+    // The run in the state after a step.
+    fn resume(self, s: State) -> Run
+        ensures { λ r. ⌜ r ≡ resume self s ⌝ }
+    {
+        Run {
+            rows: self.rows,
+            columns: self.columns,
+            k: self.k,
+            a: self.a,
+            b: self.b,
+            observed: self.observed,
+            rejected: s.rejected,
+            steps: s.steps,
+            ended: s.ended,
+        }
+    }
+
     // The next step over a lent table, with a work buffer of a place for each row.
     pub fn step(self, table: &[f64], work: &mut [f64]) -> StepAnswer
         ensures { λ r. ⌜ r ≡ stepAnswer (now (table .entry)) self (length (now (work .entry))) ⌝ }
@@ -114,20 +119,13 @@ impl Run {
         if n != 0 {
             return StepAnswer::Refused(n);
         }
-        let s = advance::advance(self, table, work);
+        let s = engine::step(state_of(self), table, work);
         let m = self.rows;
-        advance::clear(work, m);
-        let run = s.run;
-        let mark = s.mark;
-        StepAnswer::Stepped(run, mark)
+        engine::clear(work, m);
+        let state = s.state;
+        let logged = s.logged;
+        StepAnswer::Stepped(self.resume(state), logged)
     }
-}
-
-// What a full run answers that is refused by a number: blank but for it.
-pub fn refused(number: u32) -> FullRun
-    ensures { λ r. ⌜ r ≡ blankRun number ⌝ }
-{
-    tracing::blank(number)
 }
 
 // All steps of a table at once: the same as stepping from the beginning.
@@ -146,20 +144,9 @@ pub fn full_run(
 {
     let n = refusal::of_table(table, rows, columns, k, a, b, observed, work.len());
     if n != 0 {
-        return tracing::blank(n);
+        return runs::refused(n);
     }
-    let start = Run {
-        rows,
-        columns,
-        k,
-        a,
-        b,
-        observed,
-        rejected: 0,
-        steps: 0,
-        ended: false,
-    };
-    let t = tracing::all_steps(start, table, work);
-    advance::clear(work, rows);
-    tracing::finish(t, table, rows, columns, k, observed)
+    let e = allowance(rows, a, b);
+    let live = critical::full_mask(columns);
+    engine::full_run(table, work, rows, columns, k, e, observed, live)
 }

@@ -1,41 +1,19 @@
 -- What an accepted trial is known to be.
-use Prim.Native.Nat.{ℕ, _*_, _≤_}
+use Prim.Native.Nat.{_*_, _≤_}
 use mathlib.Core.Path.{_≡_, sym, subst}
 use mathlib.Core.Bool.{Bool, false, not}
 use mathlib.Core.List.{List, [], _∷_}
 use lib.ListN.{take}
-use lib.Dec.{T, ltb}
+use lib.Dec.{T}
 use lib.IntN.{ℤ}
-use Rattle.order.proofs.Booleans.{and-both}
 use Rattle.order.specs.Counting.{all}
-use Rattle.order.proofs.Counts.{all-append}
-use Rattle.stepdown.specs.Refusals.{badLevel}
-use Rattle.stepdown.proofs.Accepted.{NoneHolds, none-holds, sizes, Level, level}
-use Rattle.stepdown.proofs.Refusals.{Numbered, none-append}
+use Rattle.order.proofs.Booleans.{and-both}
+use Rattle.refusals.specs.Limits.{badLevel}
+use Rattle.refusals.proofs.Answers.{NoneHolds, none-holds, none-append}
+use Rattle.refusals.proofs.Limits.{sizes, Level, level}
 use Rattle.trial.specs.Refusals.{badDifference, offerChecks, differenceChecks, trialChecks, trialRefusal}
 use Rattle.trial.specs.declared.Trial.{Trial}
 use Rattle.trial.proofs.Sums.{InRange}
-
--- ---- every number of the list is above 0
-
-pub offers-numbered : (earlier cs ds : List ℕ) → Numbered (offerChecks earlier cs ds)
-unfolding offerChecks all
-offers-numbered earlier [] ds = tt
-offers-numbered earlier (c ∷ cs) [] = tt
-offers-numbered earlier (c ∷ cs) (d ∷ ds) = offers-numbered (c ∷ earlier) cs ds
-
-pub differences-numbered : (ds : List ℤ) → Numbered (differenceChecks ds)
-unfolding differenceChecks all
-differences-numbered [] = tt
-differences-numbered (d ∷ ds) = differences-numbered ds
-
-pub trialChecks-numbered : (t : Trial) → Numbered (trialChecks t)
-unfolding trialChecks all
-trialChecks-numbered t =
-    let cs = take (t .offers) (t .codes) in
-    let ds = take (t .offers) (t .digits) in
-    let xs = take (t .offers * t .pairs) (t .differences) in
-    all-append (λ c. ltb 0 (c .1)) (offerChecks [] cs ds) (differenceChecks xs) (offers-numbered [] cs ds) (differences-numbered xs)
 
 differences-in : (ds : List ℤ) → NoneHolds (differenceChecks ds) → InRange ds
 unfolding differenceChecks all
@@ -62,7 +40,7 @@ accepted t h =
     let cs = take (t .offers) (t .codes) in
     let ds = take (t .offers) (t .digits) in
     let xs = take (t .offers * t .pairs) (t .differences) in
-    let f = none-holds (trialChecks t) (trialChecks-numbered t) h in
+    let f = none-holds (trialChecks t) h in
     let c = sizes 9 16 (t .pairs) (t .offers) (t .k) (f .0) in
     record {
       pairs-some = c .rows-some;

@@ -20,14 +20,14 @@ use mir.Syntax.{w32}
 use mir.Val.{toZ, ofZ}
 use mir.Facts.{toZ-ofZ}
 use borrow.Author.Tests.{ltb-true, ltb-false, lt-ltb, le-ltb, eq-eqb, ne-eqb}
-use Rattle.order.specs.Counting.{all}
 use Rattle.order.proofs.Booleans.{or-holds, or-passes}
-use Rattle.stepdown.specs.Refusals.{Checks, firstRefusal, outside, badLevel}
-use Rattle.stepdown.proofs.Accepted.{none-holds, inside, sizes}
-use Rattle.stepdown.proofs.Refusals.{Numbered, judged, judged-last, first-decides, first-passes}
-use Rattle.trial.specs.Refusals.{badCounts, badDigits, has, earlierOf, badDifference, offerChecks, differenceChecks, trialChecks, trialRefusal}
+use Rattle.refusals.specs.Answers.{r3, r4, r5, r6, Checks, firstRefusal}
+use Rattle.refusals.specs.Limits.{outside, badLevel}
+use Rattle.refusals.proofs.Answers.{none-holds, judged, judged-last, first-decides, first-passes}
+use Rattle.refusals.proofs.Limits.{inside, sizes}
+use Rattle.trial.specs.Internal.{earlierOf}
+use Rattle.trial.specs.Refusals.{badCounts, badDigits, among, badDifference, offerChecks, differenceChecks, trialChecks, trialRefusal}
 use Rattle.trial.specs.declared.Trial.{Trial}
-use Rattle.trial.proofs.Accepted.{offers-numbered}
 
 -- ---- 5
 
@@ -60,18 +60,18 @@ module _ (c d : ℕ) (b : Bool) (e : b ≡ outside 1 7 d) where
 -- ---- 6
 
 module _ (cs : List ℕ) (c j : ℕ) where
-  earlier-more : 0 < j → has c (earlierOf j cs) ≡ (eqb c (getD cs (j - 1) 0) || has c (earlierOf (j - 1) cs))
-  unfolding has earlierOf
-  earlier-more h = let e : j ≡ suc (j - 1) = omega arith in ap (λ (n : ℕ). has c (earlierOf n cs)) e
+  earlier-more : 0 < j → among c (earlierOf j cs) ≡ (eqb c (getD cs (j - 1) 0) || among c (earlierOf (j - 1) cs))
+  unfolding among earlierOf
+  earlier-more h = let e : j ≡ suc (j - 1) = omega arith in ap (λ (n : ℕ). among c (earlierOf n cs)) e
 
-  pub earlier-hit : 0 < j → c ≡ getD cs (j - 1) 0 → has c (earlierOf j cs) ≡ true
-  earlier-hit h e = earlier-more h ∙ ap (λ (b : Bool). b || has c (earlierOf (j - 1) cs)) (eq-eqb c (getD cs (j - 1) 0) e)
+  pub earlier-hit : 0 < j → c ≡ getD cs (j - 1) 0 → among c (earlierOf j cs) ≡ true
+  earlier-hit h e = earlier-more h ∙ ap (λ (b : Bool). b || among c (earlierOf (j - 1) cs)) (eq-eqb c (getD cs (j - 1) 0) e)
 
-  pub earlier-turn : 0 < j → (c ≡ getD cs (j - 1) 0 → ⊥) → has c (earlierOf j cs) ≡ has c (earlierOf (j - 1) cs)
-  earlier-turn h e = earlier-more h ∙ ap (λ (b : Bool). b || has c (earlierOf (j - 1) cs)) (ne-eqb c (getD cs (j - 1) 0) e)
+  pub earlier-turn : 0 < j → (c ≡ getD cs (j - 1) 0 → ⊥) → among c (earlierOf j cs) ≡ among c (earlierOf (j - 1) cs)
+  earlier-turn h e = earlier-more h ∙ ap (λ (b : Bool). b || among c (earlierOf (j - 1) cs)) (ne-eqb c (getD cs (j - 1) 0) e)
 
-  pub earlier-none : j ≤ 0 → has c (earlierOf j cs) ≡ false
-  unfolding has earlierOf
+  pub earlier-none : j ≤ 0 → among c (earlierOf j cs) ≡ false
+  unfolding among earlierOf
   earlier-none h = let e : j ≡ 0 = omega arith in rw e
 
 -- the checks of the offers from i on
@@ -85,27 +85,27 @@ module _ (cs ds : List ℕ) (n i : ℕ) where
   offers-start = refl
 
   abbrev offerAt : Checks
-  offerAt = (badDigits (getD cs i 0) (getD ds i 0), 5) ∷ (has (getD cs i 0) (earlierOf i cs), 6) ∷ []
+  offerAt = (badDigits (getD cs i 0) (getD ds i 0), r5) ∷ (among (getD cs i 0) (earlierOf i cs), r6) ∷ []
 
   offers-more : i < n → n ≤ length cs → n ≤ length ds
       → offersFrom i n cs ds ≡ firstRefusal (offerAt ++ offerChecks (earlierOf (i + 1) cs) (slice (i + 1) n cs) (slice (i + 1) n ds))
   unfolding offersFrom offerChecks earlierOf
   offers-more h k l = rw (add-one, slice-cons i n cs 0 h k, slice-cons i n ds 0 h l)
 
-  module _ (h : i < n) (k : n ≤ length cs) (l : n ≤ length ds) (b q : Bool) (s r : ℕ) (e : b ≡ badDigits (getD cs i 0) (getD ds i 0)) (g : q ≡ has (getD cs i 0) (earlierOf i cs)) (six : s ≡ cond q 6 0) (five : r ≡ cond b 5 s) where
+  module _ (h : i < n) (k : n ≤ length cs) (l : n ≤ length ds) (b q : Bool) (s r : ℕ) (e : b ≡ badDigits (getD cs i 0) (getD ds i 0)) (g : q ≡ among (getD cs i 0) (earlierOf i cs)) (six : s ≡ cond q 6 0) (five : r ≡ cond b 5 s) where
     rest : Checks
     rest = offerChecks (earlierOf (i + 1) cs) (slice (i + 1) n cs) (slice (i + 1) n ds)
 
     here : r ≡ firstRefusal offerAt
-    here = judged b _ 5 r e _ s (judged-last q _ 6 s g six) five
+    here = judged b _ r5 r e _ s (judged-last q _ r6 s g six) five
 
     pub offers-refused : (r ≡ 0 → ⊥) → offersFrom i n cs ds ≡ r
-    unfolding rest all
-    offers-refused z = offers-more h k l ∙ first-decides offerAt rest tt r here z
+    unfolding rest
+    offers-refused z = offers-more h k l ∙ first-decides offerAt rest r here z
 
     pub offers-turn : r ≡ 0 → offersFrom i n cs ds ≡ offersFrom (i + 1) n cs ds
-    unfolding rest offersFrom all
-    offers-turn z = offers-more h k l ∙ first-passes offerAt rest tt r here z
+    unfolding rest offersFrom
+    offers-turn z = offers-more h k l ∙ first-passes offerAt rest r here z
 
   pub offers-none : n ≤ i → i ≤ n → offersFrom i n cs ds ≡ 0
   unfolding offersFrom firstRefusal offerChecks
@@ -113,10 +113,10 @@ module _ (cs ds : List ℕ) (n i : ℕ) where
 
 -- ---- 7
 
-bad-low : (d : ℤ) → ltZ d (negsuc 134217726) ≡ true → true ≡ badDifference d
+bad-low : (d : ℤ) (m : ℕ) → ltZ d (negsuc m) ≡ true → 134217726 ≤ m → true ≡ badDifference d
 unfolding badDifference
-bad-low (pos n) h = absurd (subst (λ (b : Bool). T b) (sym h) tt)
-bad-low (negsuc n) h = let g = ltb-true 134217726 n h in sym (lt-ltb 134217727 (suc n) (omega arith))
+bad-low (pos n) m h l = absurd (subst (λ (b : Bool). T b) (sym h) tt)
+bad-low (negsuc n) m h l = let g = ltb-true m n h in sym (lt-ltb 134217727 (suc n) (omega arith))
 
 bad-high : (d : ℤ) → ltZ d (negsuc 134217726) ≡ false → ltZ (pos 134217727) d ≡ badDifference d
 unfolding badDifference
@@ -125,8 +125,8 @@ bad-high (negsuc n) h = let g = ltb-false 134217726 n h in sym (le-ltb 134217727
 
 -- the same of a difference that was read from its bits
 module _ (x d : ℤ) (e : x ≡ d) where
-  pub difference-low : ltZ x (negsuc 134217726) ≡ true → true ≡ badDifference d
-  difference-low h = bad-low d (ap (λ (z : ℤ). ltZ z (negsuc 134217726)) (sym e) ∙ h)
+  pub difference-low : (m : ℕ) → ltZ x (negsuc m) ≡ true → 134217726 ≤ m → true ≡ badDifference d
+  difference-low m h l = bad-low d m (ap (λ (z : ℤ). ltZ z (negsuc m)) (sym e) ∙ h) l
 
   pub difference-high : ltZ x (negsuc 134217726) ≡ false → ltZ (pos 134217727) x ≡ badDifference d
   difference-high h = ap (ltZ (pos 134217727)) e ∙ bad-high d (ap (λ (z : ℤ). ltZ z (negsuc 134217726)) (sym e) ∙ h)
@@ -159,7 +159,7 @@ module _ (ds : List ℤ) (n i : ℕ) where
 -- ---- the checks of a record, in order
 
 abbrev figureChecks : Trial → Checks
-figureChecks t = (badCounts (t .k) (t .offers) (t .pairs), 4) ∷ (badLevel (t .a) (t .b), 3) ∷ []
+figureChecks t = (badCounts (t .k) (t .offers) (t .pairs), r4) ∷ (badLevel (t .a) (t .b), r3) ∷ []
 
 abbrev codeChecks : Trial → Checks
 codeChecks t = offerChecks [] (take (t .offers) (t .codes)) (take (t .offers) (t .digits))
@@ -169,30 +169,26 @@ lastChecks t = differenceChecks (take (t .offers * t .pairs) (t .differences))
 
 module _ (t : Trial) (b l : Bool) (s r : ℕ) (counts : b ≡ badCounts (t .k) (t .offers) (t .pairs)) (level : l ≡ badLevel (t .a) (t .b)) (three : s ≡ cond l 3 0) (four : r ≡ cond b 4 s) where
   figures : r ≡ firstRefusal (figureChecks t)
-  figures = judged b _ 4 r counts _ s (judged-last l _ 3 s level three) four
+  figures = judged b _ r4 r counts _ s (judged-last l _ r3 s level three) four
 
   pub refusal-figures : (r ≡ 0 → ⊥) → r ≡ trialRefusal t
-  unfolding trialRefusal trialChecks all
-  refusal-figures h = sym (first-decides (figureChecks t) (codeChecks t ++ lastChecks t) tt r figures h)
+  unfolding trialRefusal trialChecks
+  refusal-figures h = sym (first-decides (figureChecks t) (codeChecks t ++ lastChecks t) r figures h)
 
   module _ (passed : r ≡ 0) where
     -- no more offers and pairs than the record has places for
     pub places-held : (t .offers ≤ 16) × (t .pairs ≤ 9) × (t .offers * t .pairs ≤ 144)
-    unfolding all
-    places-held = let f = sizes 9 16 (t .pairs) (t .offers) (t .k) (none-holds (figureChecks t) tt (sym figures ∙ passed) .0) in (f .columns-most, f .rows-most, mul-le-mul (f .columns-most) (f .rows-most))
+    places-held = let f = sizes 9 16 (t .pairs) (t .offers) (t .k) (none-holds (figureChecks t) (sym figures ∙ passed) .0) in (f .columns-most, f .rows-most, mul-le-mul (f .columns-most) (f .rows-most))
 
     module _ (o : ℕ) (offers : o ≡ firstRefusal (codeChecks t)) where
-      codes-numbered : Numbered (codeChecks t)
-      codes-numbered = offers-numbered [] (take (t .offers) (t .codes)) (take (t .offers) (t .digits))
-
       past-figures : trialRefusal t ≡ firstRefusal (codeChecks t ++ lastChecks t)
-      unfolding trialRefusal trialChecks all
-      past-figures = first-passes (figureChecks t) (codeChecks t ++ lastChecks t) tt r figures passed
+      unfolding trialRefusal trialChecks
+      past-figures = first-passes (figureChecks t) (codeChecks t ++ lastChecks t) r figures passed
 
       pub refusal-offers : (o ≡ 0 → ⊥) → o ≡ trialRefusal t
-      refusal-offers h = sym (past-figures ∙ first-decides (codeChecks t) (lastChecks t) codes-numbered o offers h)
+      refusal-offers h = sym (past-figures ∙ first-decides (codeChecks t) (lastChecks t) o offers h)
 
       pub refusal-differences : o ≡ 0 → (d : ℕ) → d ≡ firstRefusal (lastChecks t) → d ≡ trialRefusal t
       refusal-differences h d e =
           e
-          ∙ sym (past-figures ∙ first-passes (codeChecks t) (lastChecks t) codes-numbered o offers h)
+          ∙ sym (past-figures ∙ first-passes (codeChecks t) (lastChecks t) o offers h)

@@ -1,3 +1,4 @@
+pub mod Examples
 pub mod Sums
 pub mod Accepted
 pub mod Tables
@@ -5,6 +6,4 @@ pub mod Conditions
 pub mod Places
 pub mod Calls
 pub mod Unused
-pub mod Examples
-pub mod Runs
 pub mod Exact

@@ -1,6 +1,6 @@
 -- Laws by which the table's places are proved.
 --   rows-shift                       M as a shift
---   cast-fits, op-..                 a sum and a difference of an i64 and an i32: they fit, and are what they say
+--   op-..                            a sum and a difference of an i64 and an i32: they fit, and are what they say
 --   float-fits                       a whole number that is exact as an f64
 --   sumFrom, sum-.., turn-..         the signed sum from pair j on, and what one more pair adds
 --   joined-place, tableOf-place      a place of joined rows; place g * offers + i of a table is the entry of offer i in row g
@@ -11,9 +11,9 @@ use Prim.Native.Nat.{ℕ, zero, suc, _+_, _-_, _*_, _/_, _%_, _^_, _≤_, _<_}
 use native.Mathlib.Numerals.{add-one}
 use native.Mathlib.Omega.{arith}
 use native.Mathlib.Nat.{sub-zero, one-mul, suc-mul, mod-lt, mul-le-mul, div-add-mod', div-lt-iff-lt-mul}
-use mathlib.Core.Path.{_≡_, refl, sym, ap, _∙_}
+use mathlib.Core.Path.{_≡_, refl, sym, ap, ap₂, _∙_}
 use mathlib.Core.Bool.{Bool, true, false}
-use mathlib.Core.List.{List, [], _∷_, _++_, map}
+use mathlib.Core.List.{List, [], _∷_, _++_}
 use lib.ListN.{length, getD, take, drop, set, length-append, List·getD-append}
 use lib.Seq.{drop-cons, take-length, getD-append-add}
 use lib.Dec.{T, eqb, eqb→eq, le→leb, lt→ltb}
@@ -25,11 +25,13 @@ use mir.Syntax.{w32, w64}
 use mir.Val.{SFits, toZ, ofZ}
 use mir.Facts.{toZ-ofZ}
 use borrow.Author.Tests.{eq-eqb, ne-eqb}
-use Rattle.order.proofs.Booleans.{and-left, and-right}
 use Rattle.order.specs.Counting.{all}
-use Rattle.stepdown.specs.Buffers.{written}
-use Rattle.stepdown.proofs.Rows.{rowsOf-length, rowsOf-row}
-use Rattle.trial.specs.Exchange.{exchanged, signedSum, byOffer, rowTotal, rowOf, trialRows, joined, tableOf}
+use Rattle.order.specs.Lists.{joined}
+use Rattle.order.proofs.Booleans.{and-left, and-right}
+use Rattle.order.proofs.Signed.{abs-mag, abs-fits, wide-is, kept}
+use Rattle.order.proofs.Lists.{rowsOf-length, rowsOf-row, getD-map}
+use Rattle.refusals.specs.Buffers.{written}
+use Rattle.trial.specs.Exchange.{exchanged, signedSum, byOffer, rowTotal, rowOf, trialRows, tableOf}
 use Rattle.trial.specs.declared.Trial.{Trial}
 use Rattle.trial.proofs.Sums.{abs-add, abs-neg}
 use Rattle.trial.proofs.Tables.{trialRows-length, trialRows-row, even-rows}
@@ -44,33 +46,16 @@ rows-shift n h = shl-exact 1 n 64 (omega arith) (omega arith) ∙ one-mul (2 ^ n
 pub abs-minus : (a b : ℤ) → natAbs (a -ℤ b) ≤ natAbs a + natAbs b
 abs-minus a b = omega (arith, abs-add a (negℤ b), abs-neg b)
 
-mag-abs : (z : ℤ) → mag z ≤ natAbs z
-mag-abs (pos n) = omega arith
-mag-abs (negsuc n) = omega arith
-
-abs-mag : (z : ℤ) → natAbs z ≤ mag z + 1
-abs-mag (pos n) = omega arith
-abs-mag (negsuc n) = omega arith
-
-small-fits : (z : ℤ) → natAbs z < 2 ^ 63 → SFits w64 z
-small-fits z h = record { sfits = omega (arith, mag-abs z) }
-
 -- one law for a sum and a difference of an i64 and an i32
 module _ (op : ℤ → ℤ → ℤ) (small : (a d : ℤ) → natAbs (op a d) ≤ natAbs a + natAbs d) (a d : ℤ) (fa : SFits w64 a) (fd : SFits w32 d) (h : natAbs a ≤ 2 ^ 40) where
-  wide : SFits w64 d
-  wide = record { sfits = omega (arith, fd .sfits) }
-
-  pub cast-fits : SFits w64 (toZ w32 (ofZ w32 d))
-  cast-fits = rw (toZ-ofZ fd) wide
-
   back : op (toZ w64 (ofZ w64 a)) (toZ w64 (ofZ w64 (toZ w32 (ofZ w32 d)))) ≡ op a d
-  back = rw (toZ-ofZ fd, toZ-ofZ fa, toZ-ofZ wide)
+  back = ap₂ op (toZ-ofZ fa) (wide-is d fd)
 
   below : natAbs (op a d) ≤ natAbs a + 2 ^ 31
   below = omega (arith, small a d, abs-mag d, fd .sfits)
 
   pub op-fits : SFits w64 (op (toZ w64 (ofZ w64 a)) (toZ w64 (ofZ w64 (toZ w32 (ofZ w32 d)))))
-  op-fits = rw back (small-fits (op a d) (omega (arith, below)))
+  op-fits = rw back (abs-fits w64 (op a d) (omega (arith, below)))
 
   pub op-is : toZ w64 (ofZ w64 (op (toZ w64 (ofZ w64 a)) (toZ w64 (ofZ w64 (toZ w32 (ofZ w32 d)))))) ≡ op a d
   op-is = toZ-ofZ op-fits ∙ back
@@ -88,7 +73,7 @@ float-fits n f h = rw (toZ-ofZ f) (in-float n h)
 
 -- a result in its bits
 pub read-back : (r : ℤ) (b : ℕ) → b ≡ ofZ w64 r → natAbs r < 2 ^ 63 → toZ w64 b ≡ r
-read-back r b e h = rw e (toZ-ofZ (small-fits r h))
+read-back r b e h = rw e (kept w64 r h)
 
 -- ---- a signed sum, pair by pair
 
@@ -152,11 +137,6 @@ joined-place n (r ∷ rs) (suc g) i d h k j =
     let z : suc g * n + i ≡ length r + (g * n + i) = omega (arith, suc-mul g n) in
     ap (λ (p : ℕ). getD (r ++ joined rs) p d) z ∙ getD-append-add r (joined rs) (g * n + i) d ∙ joined-place n rs g i d (and-right (eqb (length r) n) (all (λ r. eqb (length r) n) rs) h) k (omega arith)
 
-getD-map-in : {A B : Type 0} (f : A → B) (l : List A) (i : ℕ) (a : A) (b : B) → i < length l → getD (map f l) i b ≡ f (getD l i a)
-getD-map-in f [] i a b h = absurd (omega arith)
-getD-map-in f (x ∷ l) zero a b h = refl
-getD-map-in f (x ∷ l) (suc i) a b h = getD-map-in f l i a b (omega arith)
-
 -- ---- the table, place by place
 
 pub tableOf-length : (t : Trial) → length (tableOf t) ≡ rowTotal t * t .offers
@@ -172,7 +152,7 @@ tableOf-place t g i h k =
     let m = trialRows-length t in
     joined-place (t .offers) (trialRows t) g i nan (even-rows t) k (omega arith)
     ∙ ap (λ (r : List Float). getD r i nan) (trialRows-row t g h)
-    ∙ getD-map-in (λ ds. ofInt binary64 (signedSum g ds)) (byOffer t) i [] nan (omega arith)
+    ∙ getD-map (λ ds. ofInt binary64 (signedSum g ds)) (byOffer t) i [] nan (omega arith)
     ∙ ap (λ (ds : List ℤ). ofInt binary64 (signedSum g ds)) (rowsOf-row (t .offers) (t .pairs) (t .differences) i k)
 
 module _ (t : Trial) (p : ℕ) (some : 1 ≤ t .offers) (most : t .offers ≤ 16) (pairs : t .pairs ≤ 9) where

@@ -15,8 +15,8 @@ use lib.Ieee.Back.{round-whole}
 use lib.Ieee.Fits.{ofInt-fits}
 use borrow.Author.Tests.{ltb-true}
 use Rattle.order.specs.Order.{finite}
-use Rattle.order.proofs.Booleans.{and-left, and-right}
 use Rattle.order.specs.Counting.{all}
+use Rattle.order.proofs.Booleans.{and-left, and-right, digit-cases}
 use Rattle.trial.specs.Exchange.{exchanged, signedSum}
 use Rattle.trial.specs.Refusals.{badDifference}
 
@@ -87,11 +87,6 @@ pub flipped-length : (g : ℕ) (ds : List ℤ) → length (flipped g ds) ≡ len
 unfolding flipped
 flipped-length g [] = refl
 flipped-length g (d ∷ ds) = ap suc (flipped-length (g / 2) ds)
-
-digit-cases : (P : ℕ → Type 0) → P 0 → P 1 → (n : ℕ) → n < 2 → P n
-digit-cases P z o zero h = z
-digit-cases P z o (suc zero) h = o
-digit-cases P z o (suc (suc n)) h = absurd (omega arith)
 
 exchange-twice : (x y : ℕ) (d : ℤ) → x < 2 → y < 2 → exchanged (eqb x 1) (exchanged (eqb y 1) d) ≡ exchanged (eqb (bitXor x y) 1) d
 exchange-twice x y d h k =

@@ -1,46 +1,34 @@
--- Laws of a trial's table: its rows, and that the table of an accepted trial is accepted.
+-- Laws of a trial's table: its rows.
+--   drop-take                        a part of a first part
+--   sums-small, rowOf-all            the sums of a row are at most 2^53, and what holds of such sums holds of its values
+--   rowOf-.., trialRows-..           how long rows are, how many, which; those of an accepted trial are finite
+--   even-rows, tableOf-rows          the lent table has these rows
+--   rowTotal-some                    there is a row
 use Prim.Native.Nat.{ℕ, zero, suc, _+_, _-_, _*_, _^_, _≤_, _<_}
 use native.Mathlib.Omega.{arith}
 use native.Mathlib.Nat.{suc-mul}
 use native.Mathlib.Decide.{decLe}
-use mathlib.Core.Path.{_≡_, refl, sym, ap, ap₂, _∙_, subst}
+use mathlib.Core.Path.{_≡_, sym, ap, _∙_, subst}
 use mathlib.Core.Bool.{Bool, not, _&&_}
-use mathlib.Core.List.{List, [], _∷_, _++_}
+use mathlib.Core.List.{List, [], _++_}
 use lib.ListN.{length, getD, take, drop, length-map, length-append, length-take, drop-of-length-le}
-use lib.Seq.{take-at, drop-at, take-take, take-add, take-nil, length-take-le}
-use lib.Dec.{T, eqb, leb, eqb-refl, eqb→eq, leb→le, le→leb}
+use lib.Seq.{drop-at, take-take, take-add, take-nil, length-take-le}
+use lib.Dec.{T, eqb, leb, eqb-refl, leb→le, le→leb}
 use lib.IntN.{ℤ, natAbs}
 use lib.Pow.{pow-pos}
 use lib.Ieee.{Float, binary64, ofInt}
 use Rattle.order.specs.Order.{finite}
-use Rattle.order.proofs.Booleans.{and-both, and-left, and-right}
 use Rattle.order.specs.Counting.{all}
+use Rattle.order.specs.Lists.{rowsOf, joined}
+use Rattle.order.proofs.Booleans.{and-both, and-left, and-right}
 use Rattle.order.proofs.Counts.{all-map, all-le}
-use Rattle.stepdown.specs.Tables.{rowsOf}
-use Rattle.stepdown.specs.Runs.{tabulate}
-use Rattle.stepdown.proofs.Tabulate.{tabulate-length, tabulate-getD}
-use Rattle.stepdown.proofs.Rows.{all-take, all-drop, rowsOf-length}
-use Rattle.stepdown.proofs.Critical.{Sound, soundRow}
-use Rattle.trial.specs.Exchange.{signedSum, byOffer, rowTotal, rowOf, trialRows, joined, tableOf}
+use Rattle.order.proofs.Lists.{tabulate-length, tabulate-getD, all-tabulate, all-take, all-drop, rowsOf-length, rowsOf-joined}
+use Rattle.order.proofs.Rows.{Sound, soundRow, sound-row}
+use Rattle.trial.specs.Exchange.{signedSum, byOffer, rowTotal, rowOf, trialRows, tableOf}
 use Rattle.trial.specs.Refusals.{badDifference}
 use Rattle.trial.specs.declared.Trial.{Trial}
 use Rattle.trial.proofs.Sums.{InRange, signedSum-small, whole-finite}
 use Rattle.trial.proofs.Accepted.{Accepted}
-
--- ---- joining rows and taking them apart
-
-pub rowsOf-joined : {A : Type 0} (n : ℕ) (rs : List (List A)) → T (all (λ r. eqb (length r) n) rs) → rowsOf (length rs) n (joined rs) ≡ rs
-unfolding rowsOf joined all
-rowsOf-joined n [] h = refl
-rowsOf-joined n (r ∷ rs) h =
-    let l : length r ≡ n = eqb→eq (length r) n (and-left (eqb (length r) n) (all (λ r. eqb (length r) n) rs) h) in
-    ap₂ (λ (x : List _) (y : List (List _)). x ∷ y) (take-at r (joined rs) n l)
-    (ap (rowsOf (length rs) n) (drop-at r (joined rs) n l) ∙ rowsOf-joined n rs (and-right (eqb (length r) n) (all (λ r. eqb (length r) n) rs) h))
-
-pub all-tabulate : {A : Type 0} (p : A → Bool) (n : ℕ) (f : ℕ → A) → ((i : ℕ) → T (p (f i))) → T (all p (tabulate n f))
-unfolding tabulate all
-all-tabulate p zero f h = tt
-all-tabulate p (suc n) f h = and-both (p (f 0)) (all p (tabulate n (λ i. f (suc i)))) (h 0) (all-tabulate p n (λ i. f (suc i)) (λ i. h (suc i)))
 
 -- ---- differences, offer by offer
 
@@ -86,7 +74,7 @@ pub sums-small : (t : Trial) (g : ℕ) → Accepted t → T (all (λ ds. leb (na
 unfolding byOffer
 sums-small t g acc = all-le (okOffer (t .pairs)) (λ ds. leb (natAbs (signedSum g ds)) (2 ^ 53)) (byOffer t) (λ ds u. le→leb (natAbs (signedSum g ds)) (2 ^ 53) (sum-small (t .pairs) g ds (acc .pairs-most) u)) (offers-ok (t .offers) (t .pairs) (t .differences) (acc .in-range))
 
--- what holds of every whole number up to 2^53 as an f64 holds of a row's values
+-- what holds of fullMask whole number up to 2^53 as an f64 holds of a row's values
 pub rowOf-all : (p : Float → Bool) → ((z : ℤ) → natAbs z ≤ 2 ^ 53 → T (p (ofInt binary64 z))) → (t : Trial) (g : ℕ) → Accepted t → T (all p (rowOf t g))
 unfolding rowOf
 rowOf-all p h t g acc =
@@ -94,14 +82,11 @@ rowOf-all p h t g acc =
     (all-le (λ ds. leb (natAbs (signedSum g ds)) (2 ^ 53)) (λ ds. p (ofInt binary64 (signedSum g ds))) (byOffer t) (λ ds u. h (signedSum g ds) (leb→le (natAbs (signedSum g ds)) (2 ^ 53) u)) (sums-small t g acc))
 
 pub rowOf-sound : (t : Trial) (g : ℕ) → Accepted t → T (soundRow (t .offers) (rowOf t g))
-rowOf-sound t g acc =
-    and-both (eqb (length (rowOf t g)) (t .offers)) (all finite (rowOf t g))
-    (subst (λ (n : ℕ). T (eqb n (t .offers))) (sym (rowOf-length t g)) (eqb-refl (t .offers)))
-    (rowOf-all finite whole-finite t g acc)
+rowOf-sound t g acc = sound-row (t .offers) (rowOf t g) (rowOf-length t g) (rowOf-all finite whole-finite t g acc)
 
 pub trialRows-length : (t : Trial) → length (trialRows t) ≡ rowTotal t
 unfolding trialRows
-trialRows-length t = tabulate-length (rowTotal t) (λ g. rowOf t g)
+trialRows-length t = tabulate-length (rowTotal t) _
 
 pub trialRows-row : (t : Trial) (g : ℕ) → g < rowTotal t → getD (trialRows t) g [] ≡ rowOf t g
 unfolding trialRows

@@ -1,32 +1,26 @@
 -- Places that the counts of a record don't use change nothing: two records that agree on the others have the same
 --   checks-same, refusal-same        checks, and the refusal that comes of them
 --   table-same, rows-same            table
---   run-same                         full run
+--   size-same                        size
 --   call-same, buffer-same           answer of a call for the table, and buffer after it
---   answer-same                      answer of a call for the full run
---   runTable-same, runWork-same      buffers after it
 use Prim.Native.Nat.{ℕ, zero, suc, _+_, _*_, _^_}
 use native.Mathlib.Omega.{arith}
 use native.Mathlib.Nat.{suc-mul}
 use mathlib.Core.Path.{_≡_, refl, sym, ap, ap₂, _∙_}
-use mathlib.Core.Bool.{cond}
 use mathlib.Core.List.{List, _∷_, _++_, map}
 use lib.ListN.{length, take, drop}
 use lib.Seq.{take-take}
-use lib.Dec.{eqb}
 use lib.IntN.{ℤ}
 use lib.Ieee.{Float, binary64, ofInt}
-use Rattle.stepdown.specs.Buffers.{written, cleared}
-use Rattle.stepdown.specs.Refusals.{Checks, firstRefusal, tooShort}
-use Rattle.stepdown.specs.Tables.{rowsOf}
-use Rattle.stepdown.specs.Runs.{tabulate}
-use Rattle.trial.specs.Exchange.{signedSum, byOffer, rowTotal, rowOf, trialRows, joined, tableOf, trialRun}
+use Rattle.order.specs.Lists.{tabulate, rowsOf, joined}
+use Rattle.refusals.specs.Answers.{Checks, answer, firstRefusal, afterwards}
+use Rattle.refusals.specs.Buffers.{tooShort, written}
+use Rattle.trial.specs.Exchange.{signedSum, byOffer, rowTotal, rowOf, trialRows, tableOf}
 use Rattle.trial.specs.Refusals.{trialChecks, trialRefusal}
-use Rattle.stepdown.specs.Answers.{acceptedRun, blankRun}
-use Rattle.stepdown.specs.Runs.{Outcome}
-use Rattle.trial.specs.Lent.{tableCallRefusal, tableBuffer, runCallRefusal, trialAnswer, runTable, runWork}
+use Rattle.trial.specs.Lent.{sizeOf, tableCallChecks, tableCallRefusal, tableBuffer}
 use Rattle.trial.specs.Used.{SameUsed}
 use Rattle.trial.specs.declared.Trial.{Trial}
+use Rattle.trial.specs.declared.TableSize.{TableSize}
 use Rattle.trial.proofs.Tables.{drop-take}
 
 -- m rows of n members are made of the first m * n members
@@ -73,32 +67,21 @@ module _ (t u : Trial) (s : SameUsed t u) where
   unfolding rowTotal
   rows-same = ap (λ (n : ℕ). 2 ^ n) (s .pairs-same)
 
-  pub run-same : trialRun t ≡ trialRun u
-  unfolding trialRun
-  run-same = rw (table-same, rows-same, s .offers-same, s .k-same, s .a-same, s .b-same)
+  pub size-same : sizeOf t ≡ sizeOf u
+  unfolding sizeOf
+  size-same = ap₂ (λ (cs : Checks) (m : ℕ). sizeBy cs m (t .offers)) checks-same rows-same ∙ ap (sizeBy (trialChecks u) (rowTotal u)) (s .offers-same)
+    where
+      sizeBy : Checks → ℕ → ℕ → TableSize
+      sizeBy cs m n = answer cs (record { refusal = 0; rows = m; columns = n }) (λ r. record { refusal = r; rows = 0; columns = 0 })
+
+  calls-same : (places : ℕ) → tableCallChecks t places ≡ tableCallChecks u places
+  unfolding tableCallChecks
+  calls-same places = ap₂ (λ (cs : Checks) (n : ℕ). cs ++ tooShort places n) checks-same (ap₂ _*_ rows-same (s .offers-same))
 
   pub call-same : (places : ℕ) → tableCallRefusal t places ≡ tableCallRefusal u places
   unfolding tableCallRefusal
-  call-same places = ap₂ (λ (cs : Checks) (n : ℕ). firstRefusal (cs ++ tooShort places n)) checks-same (ap₂ _*_ rows-same (s .offers-same))
+  call-same places = ap firstRefusal (calls-same places)
 
   pub buffer-same : (buf : List Float) → tableBuffer t buf ≡ tableBuffer u buf
   unfolding tableBuffer
-  buffer-same buf = ap₂ (λ (n : ℕ) (xs : List Float). cond (eqb n 0) (written xs buf) buf) (call-same (length buf)) table-same
-
-  asked-same : (places work : ℕ) → runCallRefusal t places work ≡ runCallRefusal u places work
-  unfolding runCallRefusal
-  asked-same places work =
-      ap₂ (λ (cs : Checks) (m : ℕ). firstRefusal (cs ++ (tooShort places (m * t .offers) ++ tooShort work m))) checks-same rows-same
-      ∙ ap (λ (n : ℕ). firstRefusal (trialChecks u ++ (tooShort places (rowTotal u * n) ++ tooShort work (rowTotal u)))) (s .offers-same)
-
-  pub answer-same : (places work : ℕ) → trialAnswer t places work ≡ trialAnswer u places work
-  unfolding trialAnswer
-  answer-same places work = ap₂ (λ (n : ℕ) (o : Outcome). cond (eqb n 0) (acceptedRun o) (blankRun n)) (asked-same places work) run-same
-
-  pub runTable-same : (buf : List Float) (work : ℕ) → runTable t buf work ≡ runTable u buf work
-  unfolding runTable
-  runTable-same buf work = ap₂ (λ (n : ℕ) (xs : List Float). cond (eqb n 0) (written xs buf) buf) (asked-same (length buf) work) table-same
-
-  pub runWork-same : (places : ℕ) (buf : List Float) → runWork t places buf ≡ runWork u places buf
-  unfolding runWork
-  runWork-same places buf = ap₂ (λ (n m : ℕ). cond (eqb n 0) (cleared m buf) buf) (asked-same places (length buf)) rows-same
+  buffer-same buf = ap₂ (λ (cs : Checks) (xs : List Float). afterwards cs (written xs buf) buf) (calls-same (length buf)) table-same

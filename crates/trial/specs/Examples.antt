@@ -1,11 +1,12 @@
 -- The trial W of document 01 as a record: places that its counts don't use hold zero. Definitions only.
 --   trialWith a b k    W at level a/b with tolerance k
 --   trialW             W as printed: at 1/4 with k 1
+--   sumsW              the sums of its rows, offer by offer
 --   settings           the settings of the starred examples of W: a, b and k
 use Prim.Native.Nat.{ℕ}
 use mathlib.Core.List.{List, [], _∷_}
 use lib.ListN.{replicate}
-use lib.IntN.{pos, negsuc}
+use lib.IntN.{ℤ, pos, negsuc}
 use Rattle.trial.specs.declared.Trial.{Trial}
 
 abbrev pub trialWith : ℕ → ℕ → ℕ → Trial
@@ -22,6 +23,18 @@ trialWith a b k = record {
 
 unfoldable pub trialW : Trial
 trialW = trialWith 1 4 1
+
+unfoldable pub sumsW : List (List ℤ)
+sumsW =
+    (pos 12 ∷ pos 2 ∷ [])
+    ∷ (pos 2 ∷ negsuc 1 ∷ [])
+    ∷ (pos 6 ∷ pos 4 ∷ [])
+    ∷ (negsuc 3 ∷ pos 0 ∷ [])
+    ∷ (pos 4 ∷ pos 0 ∷ [])
+    ∷ (negsuc 5 ∷ negsuc 3 ∷ [])
+    ∷ (negsuc 1 ∷ pos 2 ∷ [])
+    ∷ (negsuc 11 ∷ negsuc 1 ∷ [])
+    ∷ []
 
 -- as printed; at 1/8; at 1/9; at 7/8; with k 2; with k 2 at 1/9
 unfoldable pub settings : List (ℕ × ℕ × ℕ)

@@ -5,17 +5,14 @@
 --   rowTotal t          M: the rows of a trial's table
 --   rowOf t g           row g of its table: for each offer the exact sum as an f64
 --   trialRows t         all rows
---   joined rows         rows, one after the other
 --   tableOf t           the table as it is lent, row after row
---   trialRun t          the full run of a trial: of its table, with row 0 observed
 use Prim.Native.Nat.{ℕ, _/_, _%_, _^_}
 use mathlib.Core.Bool.{Bool, true, false}
-use mathlib.Core.List.{List, [], _∷_, _++_, map}
+use mathlib.Core.List.{List, [], _∷_, map}
 use lib.Dec.{eqb}
 use lib.IntN.{ℤ, pos, negℤ, _+ℤ_}
 use lib.Ieee.{Float, binary64, ofInt}
-use Rattle.stepdown.specs.Tables.{rowsOf}
-use Rattle.stepdown.specs.Runs.{Outcome, tabulate, tableRun}
+use Rattle.order.specs.Lists.{tabulate, rowsOf, joined}
 use Rattle.trial.specs.declared.Trial.{Trial}
 
 abbrev pub exchanged : Bool → ℤ → ℤ
@@ -41,15 +38,6 @@ unfoldable pub trialRows : Trial → List (List Float)
 unfolding tabulate rowTotal rowOf
 trialRows t = tabulate (rowTotal t) (λ g. rowOf t g)
 
--- rows, one after the other
-unfoldable pub joined : {A : Type 0} → List (List A) → List A
-joined [] = []
-joined (r ∷ rs) = r ++ joined rs
-
 unfoldable pub tableOf : Trial → List Float
 unfolding joined trialRows
 tableOf t = joined (trialRows t)
-
-unfoldable pub trialRun : Trial → Outcome
-unfolding tableRun tableOf rowTotal
-trialRun t = tableRun (tableOf t) (rowTotal t) (t .offers) (t .k) (t .a) (t .b) 0

@@ -3,4 +3,5 @@ pub mod Exchange
 pub mod Refusals
 pub mod Lent
 pub mod Used
+pub mod Internal
 pub mod Examples

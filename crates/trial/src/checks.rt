@@ -4,8 +4,9 @@ ghost use mathlib.Core.Bool.{cond};
 ghost use mathlib.Core.List.{[]};
 ghost use Prim.Native.Nat.{_≤_};
 ghost use lib.ListN.{take};
-ghost use Rattle.stepdown.specs.Refusals.{firstRefusal};
-ghost use Rattle.trial.specs.Refusals.{badCounts, badDigits, has, earlierOf, badDifference, offerChecks, differenceChecks};
+ghost use Rattle.refusals.specs.Answers.{firstRefusal};
+ghost use Rattle.trial.specs.Refusals.{badCounts, badDigits, among, badDifference, offerChecks, differenceChecks};
+ghost use Rattle.trial.specs.Internal.{earlierOf};
 
 // A power of ten for each number of printed digits: the first number that has more.
 const LIMITS: [u32; 8] = [1, 10, 100, 1000, 10000, 100000, 1000000, 10000000];
@@ -24,14 +25,14 @@ pub fn first_of(holds: bool, number: u32, after: u32) -> u32
 pub fn bad_counts(k: usize, offers: usize, pairs: usize) -> bool
     ensures { λ r. ⌜ r ≡ badCounts k offers pairs ⌝ }
 {
-    stepdown::bad_sizes(9, 16, pairs, offers, k)
+    refusals::bad_sizes(9, 16, pairs, offers, k)
 }
 
 // The condition of 5.
 pub fn bad_digits(code: u32, digits: usize) -> bool
     ensures { λ r. ⌜ r ≡ badDigits code digits ⌝ }
 {
-    if stepdown::outside(1, 7, digits) {
+    if refusals::outside(1, 7, digits) {
         return true;
     }
     LIMITS[digits] <= code
@@ -40,7 +41,7 @@ pub fn bad_digits(code: u32, digits: usize) -> bool
 // The condition of 6: the code is one of the first i codes.
 fn earlier(codes: [u32; 16], i: usize, code: u32) -> bool
     requires { ⌜ i ≤ 16 ⌝ }
-    ensures { λ r. ⌜ r ≡ has code (earlierOf i codes) ⌝ }
+    ensures { λ r. ⌜ r ≡ among code (earlierOf i codes) ⌝ }
 {
     let mut j = i;
     while 0 < j {

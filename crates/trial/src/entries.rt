@@ -4,7 +4,7 @@ ghost use Prim.Native.Nat.{_+_, _*_, _^_, _≤_, _<_};
 ghost use lib.ListN.{length, getD, take, drop};
 ghost use lib.IntN.{natAbs, _+ℤ_, _-ℤ_};
 ghost use lib.Ieee.{nan, binary64, ofInt};
-ghost use Rattle.stepdown.specs.Buffers.{written};
+ghost use Rattle.refusals.specs.Buffers.{written};
 ghost use Rattle.trial.specs.Exchange.{signedSum, rowTotal, tableOf};
 use crate::Trial;
 

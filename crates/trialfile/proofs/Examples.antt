@@ -2,7 +2,7 @@
 use mathlib.Core.Path.{_≡_, refl}
 use Rattle.trial.specs.Examples.{trialW}
 use Rattle.trialfile.specs.Words.{bytesOf, signed, bitsOf}
-use Rattle.trialfile.specs.Files.{fileRefusal, answered, readingOf}
+use Rattle.trialfile.specs.Files.{fileRefusal, readingOf}
 use Rattle.trialfile.specs.Writings.{fileOf}
 use Rattle.trialfile.specs.Examples.{wordsW, wordsTwice, wordsSurplus, wordsAfter}
 
@@ -10,7 +10,7 @@ pub write-W : fileOf trialW ≡ bytesOf wordsW
 unfolding fileOf trialW wordsW bitsOf
 write-W = refl
 
-pub read-W : readingOf (bytesOf wordsW) ≡ answered 0 trialW
+pub read-W : readingOf (bytesOf wordsW) ≡ record { refusal = 0; trial = trialW }
 unfolding readingOf wordsW trialW signed bytesOf
 read-W = refl
 

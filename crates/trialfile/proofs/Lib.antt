@@ -6,9 +6,9 @@ pub mod Written
 pub mod Passed
 pub mod RoundTrip
 pub mod Writes
-pub mod Judged
+pub mod Conditions
 pub mod Signed
-pub mod Filling
+pub mod Arrays
 pub mod Taken
 pub mod Examples
 pub mod Unused

@@ -9,13 +9,12 @@ use mathlib.Core.Bool.{false}
 use mathlib.Core.List.{[]}
 use lib.ListN.{length, take}
 use lib.Seq.{length-take-le}
-use Rattle.stepdown.specs.Refusals.{badLevel}
-use Rattle.stepdown.proofs.Accepted.{NoneHolds, none-holds}
-use Rattle.stepdown.proofs.Refusals.{none-append}
-use Rattle.trial.specs.Record.{Typed}
+use Rattle.refusals.specs.Limits.{badLevel}
+use Rattle.refusals.proofs.Answers.{NoneHolds, none-holds, none-append}
+use Rattle.trial.specs.Record.{ArrayLengths}
 use Rattle.trial.specs.Refusals.{badCounts, offerChecks, differenceChecks, trialChecks, trialRefusal}
 use Rattle.trial.specs.declared.Trial.{Trial}
-use Rattle.trial.proofs.Accepted.{Accepted, accepted, trialChecks-numbered}
+use Rattle.trial.proofs.Accepted.{Accepted, accepted}
 
 pub product-most : (n p : ℕ) → n ≤ 16 → p ≤ 9 → n * p ≤ 144
 product-most n p h k = mul-le-mul h k
@@ -31,10 +30,10 @@ pub record Parts (t : Trial) : Type 0 where
   pub digits-used : length (take (t .offers) (t .digits)) ≡ t .offers
   pub differences-used : length (take (t .offers * t .pairs) (t .differences)) ≡ t .offers * t .pairs
 
-pub parts : (t : Trial) → Typed t → trialRefusal t ≡ 0 → Parts t
+pub parts : (t : Trial) → ArrayLengths t → trialRefusal t ≡ 0 → Parts t
 unfolding trialRefusal trialChecks
 parts t ty h =
-    let f = none-holds (trialChecks t) (trialChecks-numbered t) h in
+    let f = none-holds (trialChecks t) h in
     let g = none-append (offerChecks [] (take (t .offers) (t .codes)) (take (t .offers) (t .digits))) (differenceChecks (take (t .offers * t .pairs) (t .differences))) (f .1 .1) in
     let acc = accepted t h in
     record {

@@ -1,10 +1,8 @@
 -- What the words of an accepted file are known to be.
 --   Passed, passed       what holds at each place
---   file-numbered        every condition of a file has a number above 0
---   refusal-most         a file's refusal is at most 8
 --   words-many           how many words there are
 --   trial-accepted       their trial is accepted
---   trial-typed          its arrays have their lengths
+--   trial-lengths        its arrays have their lengths
 --   words-again          the trial makes the same words
 --   file-passed          an accepted file has a good length, and its words pass
 use Prim.Native.Nat.{ℕ, _+_, _-_, _*_, _%_, _≤_, _<_}
@@ -12,19 +10,17 @@ use native.Mathlib.Omega.{arith}
 use mathlib.Core.Path.{_≡_, refl, ap, ap₂, _∙_}
 use mathlib.Core.Bool.{false, not, _||_}
 use mathlib.Core.List.{List, [], _∷_, _++_, map, zipWith}
-use lib.ListN.{length, take, drop, replicate, length-append, length-map, length-drop, length-replicate, take-append-drop}
+use lib.ListN.{length, take, drop, replicate, length-map, length-drop, take-append-drop}
 use lib.Seq.{take-at, length-take-le}
-use lib.Dec.{T, ltb, leb, eqb}
+use lib.Dec.{ltb, eqb}
 use lib.IntN.{pos}
 use borrow.Author.Tests.{ltb-false, eqb-true, not-false}
-use Rattle.stepdown.specs.Buffers.{padded}
-use Rattle.order.specs.Counting.{all}
-use Rattle.order.proofs.Booleans.{and-right}
-use Rattle.order.proofs.Counts.{all-append, all-le}
-use Rattle.stepdown.specs.Refusals.{badLevel}
-use Rattle.stepdown.proofs.Accepted.{NoneHolds, none-holds, or-none}
-use Rattle.stepdown.proofs.Refusals.{Numbered, first-most, none-first, none-append, none-join}
-use Rattle.trial.specs.Record.{Typed}
+use Rattle.order.specs.Lists.{padded}
+use Rattle.order.proofs.Lists.{padded-length}
+use Rattle.refusals.specs.Limits.{badLevel}
+use Rattle.refusals.proofs.Answers.{NoneHolds, none-holds, none-first, none-append, none-join}
+use Rattle.refusals.proofs.Limits.{or-none}
+use Rattle.trial.specs.Record.{ArrayLengths}
 use Rattle.trial.specs.Refusals.{badCounts, offerChecks, differenceChecks, trialChecks, trialRefusal}
 use Rattle.trial.proofs.Accepted.{accepted}
 use Rattle.trialfile.specs.Words.{wordsOf, word, kindOf, aOf, bOf, unusedOf, kOf, offersOf, pairsOf, digitsOf, codeOf, differenceOf, countOf, offerWord, differenceWord}
@@ -32,15 +28,12 @@ use Rattle.trialfile.specs.Files.{trialOf, wordsBefore, longest, badLeng
 use Rattle.trialfile.specs.Writings.{fileWords}
 use Rattle.trialfile.proofs.Fields.{level-again, shape-again, end-again}
 use Rattle.trialfile.proofs.Parts.{product-most}
-use Rattle.trialfile.proofs.Places.{right-kind, fileNumber, offers-within, differences-within, within-numbered, offers-accepted, offers-again, differences-accepted, differences-again}
+use Rattle.trialfile.proofs.Places.{right-kind, offers-accepted, offers-again, differences-accepted, differences-again}
 
 -- ---- padding
 
 padded-take : {A : Type 0} (n m : ℕ) (d : A) (xs : List A) → length xs ≡ m → take m (padded n d xs) ≡ xs
 padded-take n m d xs l = take-at xs (replicate (n - length xs) d) m l
-
-padded-length : {A : Type 0} (n : ℕ) (d : A) (xs : List A) → length xs ≤ n → length (padded n d xs) ≡ n
-padded-length n d xs h = length-append xs (replicate (n - length xs) d) ∙ omega (arith, length-replicate (n - length xs) d)
 
 -- ---- part by part
 
@@ -60,27 +53,6 @@ alone : (ws : List ℕ) → 1 ≤ length ws → length ws ≤ 1 → word ws 0 �
 alone [] h k = absurd (omega arith)
 alone (w ∷ []) h k = refl
 alone (v ∷ w ∷ ws) h k = absurd (omega arith)
-
--- ---- the numbers
-
-file-within : (bytes : List ℕ) → T (all fileNumber (fileChecks bytes))
-unfolding fileChecks placeChecks trialOf all
-file-within bytes =
-    let ws = wordsOf bytes in
-    let t = trialOf ws in
-    let os = drop 2 ws in
-    let ds = drop (t .offers) os in
-    let end = drop (t .offers * t .pairs) ds in
-    all-append fileNumber (offerPlaces [] (t .offers) os) (differencePlaces (t .offers * t .pairs) ds ++ endPlace (wordsBefore t) end) (offers-within [] (t .offers) os)
-    (all-append fileNumber (differencePlaces (t .offers * t .pairs) ds) (endPlace (wordsBefore t) end) (differences-within (t .offers * t .pairs) ds) tt)
-
-pub file-numbered : (bytes : List ℕ) → Numbered (fileChecks bytes)
-file-numbered bytes = within-numbered (fileChecks bytes) (file-within bytes)
-
-pub refusal-most : (bytes : List ℕ) → fileRefusal bytes ≤ 8
-unfolding fileRefusal
-refusal-most bytes =
-    first-most 8 (fileChecks bytes) (all-le fileNumber (λ c. leb (c .1) 8) (fileChecks bytes) (λ c. and-right (ltb 0 (c .1)) (leb (c .1) 8)) (file-within bytes))
 
 module _ (ws : List ℕ) where
   abbrev pub offersIn : List ℕ
@@ -170,9 +142,9 @@ module _ (ws : List ℕ) (p : Passed ws) where
         ),
       )
 
-  pub trial-typed : Typed (trialOf ws)
+  pub trial-lengths : ArrayLengths (trialOf ws)
   unfolding trialOf
-  trial-typed =
+  trial-lengths =
       let acc = accepted (trialOf ws) trial-accepted in
       let n = acc .offers-most in
       record {
@@ -201,7 +173,7 @@ pub record Accepts (bytes : List ℕ) : Type 0 where
 
 pub file-passed : (bytes : List ℕ) → fileRefusal bytes ≡ 0 → Accepts bytes
 unfolding fileRefusal fileChecks
-file-passed bytes h = let f = none-holds (fileChecks bytes) (file-numbered bytes) h in record { length-good = f .0; words-good = passed (wordsOf bytes) (f .1) }
+file-passed bytes h = let f = none-holds (fileChecks bytes) h in record { length-good = f .0; words-good = passed (wordsOf bytes) (f .1) }
 
 module _ (bytes : List ℕ) (h : fileRefusal bytes ≡ 0) where
   pub lengths : (not (eqb (length bytes % 4) 0) ≡ false) × (ltb longest (length bytes) ≡ false)

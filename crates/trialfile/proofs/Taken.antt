@@ -2,20 +2,21 @@
 --   offers-fit, pairs-fit, product-fits, words-fit   the counts of an accepted file, and that its words are there
 --   trial-read                                   the trial made of its parts
 --   refused, taken                               the answer
-use Prim.Native.Nat.{ℕ, zero, suc, _+_, _*_, _/_, _%_, _≤_}
+use Prim.Native.Nat.{ℕ, _+_, _*_, _/_, _%_, _≤_}
 use native.Mathlib.Omega.{arith}
-use mathlib.Core.Path.{_≡_, refl, sym, ap, _∙_, subst}
+use mathlib.Core.Path.{_≡_, sym, ap, _∙_, subst}
 use mathlib.Core.List.{List, map}
 use lib.ListN.{length, take, drop}
 use lib.Seq.{drop-drop}
 use lib.IntN.{ℤ, pos}
-use Rattle.stepdown.specs.Buffers.{padded}
-use Rattle.trial.proofs.Accepted.{accepted}
+use Rattle.order.specs.Lists.{padded}
 use Rattle.trial.specs.declared.Trial.{Trial}
+use Rattle.trial.proofs.Accepted.{accepted}
 use Rattle.trialfile.specs.Words.{wordsOf, word, codeOf, digitsOf, differenceOf}
-use Rattle.trialfile.specs.Files.{blank, trialOf, fileRefusal, answered, readingOf}
+use Rattle.trialfile.specs.Files.{blank, trialOf, fileChecks, fileRefusal, readingOf}
 use Rattle.trialfile.proofs.Parts.{product-most}
-use Rattle.trialfile.proofs.RoundTrip.{read-accepted, read-many}
+use Rattle.trialfile.proofs.RoundTrip.{read-taken, read-accepted, read-many}
+use Rattle.refusals.proofs.Answers as answers
 
 module _ (bs : List ℕ) (h : fileRefusal bs ≡ 0) (v : ℕ) (f : v ≡ word (wordsOf bs) 1) where
   pub offers-fit : v / 256 % 256 ≤ 16
@@ -43,14 +44,12 @@ trial-read ws w v cs ds xs e f ec ed ex =
     let past : drop (2 + v / 256 % 256) ws ≡ drop (v / 256 % 256) (drop 2 ws) = sym (drop-drop (v / 256 % 256) 2 ws) in
     rw (ec, ed, ex, past, e, f)
 
-pub refused : (bs : List ℕ) (n : ℕ) (t : Trial) → n ≡ fileRefusal bs → (n ≡ 0 → ⊥) → t ≡ blank → record { refusal = n; trial = t } ≡ readingOf bs
-unfolding readingOf
-refused bs n t e z b = ap (λ (u : Trial). record { refusal = n; trial = u }) b ∙ go n z ∙ ap (λ (m : ℕ). answered m (trialOf (wordsOf bs))) e
-  where
-    go : (m : ℕ) → (m ≡ 0 → ⊥) → record { refusal = m; trial = blank } ≡ answered m (trialOf (wordsOf bs))
-    go zero z = absurd (z refl)
-    go (suc m) z = refl
+module _ (bs : List ℕ) (n : ℕ) (t : Trial) (e : n ≡ fileRefusal bs) where
+  pub refused : (n ≡ 0 → ⊥) → t ≡ blank → record { refusal = n; trial = t } ≡ readingOf bs
+  unfolding readingOf fileRefusal
+  refused z b =
+      ap (λ (u : Trial). record { refusal = n; trial = u }) b
+      ∙ answers.refused (record { refusal = 0; trial = trialOf (wordsOf bs) }) (λ m. record { refusal = m; trial = blank }) (fileChecks bs) n e z
 
-pub taken : (bs : List ℕ) (n : ℕ) (t : Trial) → n ≡ fileRefusal bs → n ≡ 0 → t ≡ trialOf (wordsOf bs) → record { refusal = 0; trial = t } ≡ readingOf bs
-unfolding readingOf
-taken bs n t e z b = ap (λ (u : Trial). answered 0 u) b ∙ ap (λ (m : ℕ). answered m (trialOf (wordsOf bs))) (sym z ∙ e)
+  pub taken : n ≡ 0 → t ≡ trialOf (wordsOf bs) → record { refusal = 0; trial = t } ≡ readingOf bs
+  taken z b = ap (λ (u : Trial). record { refusal = 0; trial = u }) b ∙ sym (read-taken bs (sym e ∙ z))

@@ -4,18 +4,15 @@
 --   written-same         buffer after it
 use Prim.Native.Nat.{ℕ}
 use mathlib.Core.Path.{_≡_, ap, ap₂}
-use mathlib.Core.Bool.{cond}
 use mathlib.Core.List.{List, _++_}
 use lib.ListN.{length}
-use lib.Dec.{eqb}
-use Rattle.stepdown.specs.Buffers.{written}
-use Rattle.stepdown.specs.Refusals.{Checks, firstRefusal, tooShort}
+use Rattle.refusals.specs.Answers.{Checks, answer, afterwards}
+use Rattle.refusals.specs.Buffers.{tooShort, written}
 use Rattle.trial.specs.Used.{SameUsed}
 use Rattle.trial.specs.declared.Trial.{Trial}
 use Rattle.trial.proofs.Unused.{checks-same}
 use Rattle.trialfile.specs.Words.{bytesOf}
-use Rattle.trialfile.specs.Writings.{offerWords, differenceWords, fileWords, fileOf, fileLength, writeRefusal, writingOf, afterWriting}
-use Rattle.trialfile.specs.declared.Writing.{Writing}
+use Rattle.trialfile.specs.Writings.{offerWords, differenceWords, fileWords, fileOf, fileLength, writeChecks, writingOf, afterWriting}
 
 module _ (t u : Trial) (s : SameUsed t u) where
   words-same : fileWords t ≡ fileWords u
@@ -29,17 +26,14 @@ module _ (t u : Trial) (s : SameUsed t u) where
   length-same : fileLength t ≡ fileLength u
   length-same = rw (s .offers-same, s .pairs-same)
 
-  refusal-same : (places : ℕ) → writeRefusal t places ≡ writeRefusal u places
-  unfolding writeRefusal
-  refusal-same places = ap₂ (λ (cs : Checks) (n : ℕ). firstRefusal (cs ++ tooShort places n)) (checks-same t u s) length-same
+  checked-same : (places : ℕ) → writeChecks t places ≡ writeChecks u places
+  unfolding writeChecks
+  checked-same places = ap₂ (λ (cs : Checks) (n : ℕ). cs ++ tooShort places n) (checks-same t u s) length-same
 
   pub writing-same : (places : ℕ) → writingOf t places ≡ writingOf u places
   unfolding writingOf
-  writing-same places = ap₂ answer (refusal-same places) length-same
-    where
-      answer : ℕ → ℕ → Writing
-      answer n l = record { refusal = n; length = cond (eqb n 0) l 0 }
+  writing-same places = ap₂ (λ (cs : Checks) (l : ℕ). answer cs (record { refusal = 0; length = l }) (λ n. record { refusal = n; length = 0 })) (checked-same places) length-same
 
   pub written-same : (buf : List ℕ) → afterWriting t buf ≡ afterWriting u buf
   unfolding afterWriting
-  written-same buf = ap₂ (λ (n : ℕ) (xs : List ℕ). cond (eqb n 0) (written xs buf) buf) (refusal-same (length buf)) file-same
+  written-same buf = ap₂ (λ (cs : Checks) (xs : List ℕ). afterwards cs (written xs buf) buf) (checked-same (length buf)) file-same

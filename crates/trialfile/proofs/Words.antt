@@ -7,9 +7,9 @@ use native.Mathlib.Nat.{div-div-eq-div-mul}
 use mathlib.Core.Path.{_≡_, refl, sym, ap, ap₂, _∙_}
 use mathlib.Core.List.{List, [], _∷_, _++_}
 use lib.ListN.{length, getD, List·getD-eq-default}
-use lib.Dec.{T, ltb, ltb→lt}
-use Rattle.order.proofs.Booleans.{and-left, and-right}
+use lib.Dec.{ltb, ltb→lt}
 use Rattle.order.specs.Counting.{all}
+use Rattle.order.proofs.Booleans.{and-left, and-right}
 use Rattle.trialfile.specs.Words.{Bytes, wordsOf, wordBytes, bytesOf, word}
 
 pub words-bytes : (ws : List ℕ) → wordsOf (bytesOf ws) ≡ ws

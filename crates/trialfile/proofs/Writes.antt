@@ -9,24 +9,22 @@ use Prim.Native.Nat.{ℕ, zero, suc, _+_, _-_, _*_, _/_, _%_, _≤_, _<_}
 use native.Mathlib.Omega.{arith}
 use native.Mathlib.Numerals.{add-one}
 use mathlib.Core.Path.{_≡_, refl, sym, ap, ap₂, _∙_}
-use mathlib.Core.Bool.{Bool, cond}
-use mathlib.Core.List.{List, [], _∷_, _++_, map, zipWith, append-nil}
+use mathlib.Core.List.{List, [], _∷_, _++_, zipWith, append-nil}
 use lib.ListN.{length, getD, set, take, drop, length-append, length-drop, List·getD-append}
 use lib.Seq.{sets, sets-eq, length-sets, take-suc, take-all, take-append-seam, drop-drop, drop-append-add, getD-append-add, getD-take, length-take-le}
-use lib.Dec.{ltb}
 use lib.IntN.{ℤ, pos, natAbs}
-use borrow.Author.Tests.{lt-ltb, le-ltb}
-use Rattle.stepdown.specs.Refusals.{Checks, firstRefusal, tooShort}
-use Rattle.stepdown.specs.Buffers.{written}
-use Rattle.stepdown.proofs.Accepted.{NoneHolds}
-use Rattle.stepdown.proofs.Refusals.{first-decides, first-passes, given-refused, given-done}
-use Rattle.trial.specs.Record.{Typed}
-use Rattle.trial.specs.Refusals.{offerChecks, differenceChecks, trialChecks, trialRefusal}
+use Rattle.order.proofs.Lists.{getD-map}
+use Rattle.refusals.specs.Answers.{Checks}
+use Rattle.refusals.specs.Buffers.{tooShort, written}
+use Rattle.refusals.proofs.Answers.{NoneHolds}
+use Rattle.trial.specs.Record.{ArrayLengths}
+use Rattle.trial.specs.Refusals.{offerChecks, differenceChecks, trialRefusal}
 use Rattle.trial.specs.declared.Trial.{Trial}
-use Rattle.trial.proofs.Accepted.{trialChecks-numbered}
+use Rattle.trial.proofs.Calls.{turned-away, passed-on, lent-short, lent-enough}
 use Rattle.trialfile.specs.Words.{wordBytes, bytesOf, word, levelWord, shapeWord, offerWord, differenceWord, endWord}
 use Rattle.trialfile.specs.Files.{wordsBefore}
-use Rattle.trialfile.specs.Writings.{offerWords, differenceWords, fileWords, fileOf, fileLength, writeRefusal, writingOf, afterWriting}
+use Rattle.trialfile.specs.Writings.{offerWords, differenceWords, fileWords, fileOf, fileLength, writeChecks, writingOf, afterWriting}
+use Rattle.trialfile.specs.declared.Writing.{Writing}
 use Rattle.trialfile.proofs.Words.{bytesOf-length, bytesOf-append}
 use Rattle.trialfile.proofs.Parts.{parts}
 use Rattle.trialfile.proofs.Places.{Printed, printed, in-range}
@@ -54,12 +52,7 @@ offer-at (c ∷ cs) [] j h k = absurd (omega arith)
 offer-at (c ∷ cs) (d ∷ ds) zero h k = refl
 offer-at (c ∷ cs) (d ∷ ds) (suc j) h k = offer-at cs ds j (omega arith) (omega arith)
 
-word-map : (ds : List ℤ) (j : ℕ) → j < length ds → word (map differenceWord ds) j ≡ differenceWord (getD ds j (pos 0))
-word-map [] j h = absurd (omega arith)
-word-map (d ∷ ds) zero h = refl
-word-map (d ∷ ds) (suc j) h = word-map ds j (omega arith)
-
-module _ (t : Trial) (ty : Typed t) (h : trialRefusal t ≡ 0) where
+module _ (t : Trial) (ty : ArrayLengths t) (h : trialRefusal t ≡ 0) where
   abbrev afterOffers : List ℕ
   afterOffers = differenceWords t ++ (endWord (wordsBefore t) ∷ [])
 
@@ -97,7 +90,7 @@ module _ (t : Trial) (ty : Typed t) (h : trialRefusal t ≡ 0) where
     word-difference =
         let p = parts t ty h in
         past-offers m ∙ List·getD-append (differenceWords t) (endWord (wordsBefore t) ∷ []) 0 m (omega (arith, differenceWords-used t ty h))
-        ∙ word-map (take (t .offers * t .pairs) (t .differences)) m (omega (arith, p .differences-used))
+        ∙ getD-map differenceWord (take (t .offers * t .pairs) (t .differences)) m (pos 0) 0 (omega (arith, p .differences-used))
         ∙ ap differenceWord (getD-take (t .offers * t .pairs) (t .differences) m (pos 0) k)
 
   pub word-end : word (fileWords t) (wordsBefore t) ≡ endWord (wordsBefore t)
@@ -108,7 +101,7 @@ module _ (t : Trial) (ty : Typed t) (h : trialRefusal t ≡ 0) where
 
 -- ---- the word of each place, as the code finds it
 
-module _ (t : Trial) (ty : Typed t) (h : trialRefusal t ≡ 0) (i : ℕ) where
+module _ (t : Trial) (ty : ArrayLengths t) (h : trialRefusal t ≡ 0) (i : ℕ) where
   pub place-level : i ≡ 0 → word (fileWords t) i ≡ levelWord (t .a) (t .b)
   unfolding fileWords
   place-level e = ap (word (fileWords t)) e
@@ -176,34 +169,34 @@ store-end ws buf i out h k g = g ∙ ap (λ (l : List ℕ). written (bytesOf l) 
 
 -- ---- the answer
 
-module _ (t : Trial) (buf : List ℕ) where
+module _ (t : Trial) (buf : List ℕ) (r : ℕ) (e : r ≡ trialRefusal t) where
   abbrev short : Checks
   short = tooShort (length buf) (fileLength t)
 
-  turned-away : (n : ℕ) → n ≡ writeRefusal t (length buf) → (n ≡ 0 → ⊥) → (record { refusal = n; length = 0 } ≡ writingOf t (length buf)) × (buf ≡ afterWriting t buf)
-  unfolding writingOf afterWriting
-  turned-away n e z = (
-    ap₂ (λ (m k : ℕ). record { refusal = m; length = k }) e (given-refused n _ e (fileLength t) (λ _. 0) z),
-    given-refused n _ e (written (fileOf t) buf) (λ _. buf) z,
-  )
+  abbrev done : Writing
+  done = record { refusal = 0; length = fileLength t }
 
-  module _ (r : ℕ) (e : r ≡ trialRefusal t) where
-    pub writing-refused : (r ≡ 0 → ⊥) → (record { refusal = r; length = 0 } ≡ writingOf t (length buf)) × (buf ≡ afterWriting t buf)
-    unfolding writeRefusal trialRefusal
-    writing-refused z = turned-away r (sym (first-decides (trialChecks t) short (trialChecks-numbered t) r e z)) z
+  abbrev refusing : ℕ → Writing
+  refusing n = record { refusal = n; length = 0 }
 
-    module _ (n : ℕ) (z : r ≡ 0) (w : n ≡ wordsBefore t + 1) where
-      buffer-decides : writeRefusal t (length buf) ≡ cond (ltb (length buf) (4 * n)) 12 0
-      unfolding writeRefusal trialRefusal firstRefusal
-      buffer-decides = first-passes (trialChecks t) short (trialChecks-numbered t) r e z ∙ ap (λ (k : ℕ). cond (ltb (length buf) (4 * k)) 12 0) (sym w)
+  abbrev Answered : Writing → List ℕ → Type 0
+  Answered w out = (w ≡ writingOf t (length buf)) × (out ≡ afterWriting t buf)
 
-      pub writing-short : length buf < 4 * n → (record { refusal = 12; length = 0 } ≡ writingOf t (length buf)) × (buf ≡ afterWriting t buf)
-      writing-short h = turned-away 12 (sym (buffer-decides ∙ ap (λ (b : Bool). cond b 12 0) (lt-ltb (length buf) (4 * n) h))) (λ q. omega arith)
+  pub writing-refused : (r ≡ 0 → ⊥) → Answered (refusing r) buf
+  unfolding writingOf afterWriting writeChecks
+  writing-refused z = (turned-away done refusing t short r e z, turned-away (written (fileOf t) buf) (λ _. buf) t short r e z)
 
-      pub writing-done : (out : List ℕ) → 4 * n ≤ length buf → out ≡ written (fileOf t) buf → (record { refusal = 0; length = 4 * n } ≡ writingOf t (length buf)) × (out ≡ afterWriting t buf)
-      unfolding writingOf afterWriting
-      writing-done out h g =
-          let f : 0 ≡ writeRefusal t (length buf) = sym (buffer-decides ∙ ap (λ (b : Bool). cond b 12 0) (le-ltb (length buf) (4 * n) h)) in (
-            ap₂ (λ (m k : ℕ). record { refusal = m; length = k }) f (ap (λ (k : ℕ). 4 * k) w ∙ given-done 0 _ f (fileLength t) (λ _. 0) refl),
-            g ∙ given-done 0 _ f (written (fileOf t) buf) (λ _. buf) refl,
-          )
+  module _ (n : ℕ) (z : r ≡ 0) (w : n ≡ wordsBefore t + 1) where
+    pub writing-short : length buf < 4 * n → Answered (refusing 12) buf
+    unfolding writingOf afterWriting writeChecks
+    writing-short h =
+        let s : length buf < fileLength t = omega arith in
+        (lent-short done refusing _ _ s ∙ passed-on done refusing t short r e z, lent-short (written (fileOf t) buf) (λ _. buf) _ _ s ∙ passed-on (written (fileOf t) buf) (λ _. buf) t short r e z)
+
+    pub writing-done : (out : List ℕ) → 4 * n ≤ length buf → out ≡ written (fileOf t) buf → Answered (record { refusal = 0; length = 4 * n }) out
+    unfolding writingOf afterWriting writeChecks
+    writing-done out h g =
+        let s : fileLength t ≤ length buf = omega arith in (
+          ap (λ (k : ℕ). record { refusal = 0; length = 4 * k }) w ∙ lent-enough done refusing _ _ s ∙ passed-on done refusing t short r e z,
+          g ∙ lent-enough (written (fileOf t) buf) (λ _. buf) _ _ s ∙ passed-on (written (fileOf t) buf) (λ _. buf) t short r e z,
+        )

@@ -12,10 +12,10 @@ use lib.Seq.{take-at, drop-at}
 use lib.Dec.{eqb}
 use lib.IntN.{ℤ}
 use borrow.Author.Tests.{le-ltb, ne-eqb, eq-eqb}
-use Rattle.stepdown.specs.Refusals.{badLevel}
-use Rattle.stepdown.proofs.Accepted.{NoneHolds}
-use Rattle.stepdown.proofs.Refusals.{neither, none-first, none-join}
-use Rattle.trial.specs.Record.{Typed}
+use Rattle.refusals.specs.Limits.{badLevel}
+use Rattle.refusals.proofs.Answers.{NoneHolds, none-first, none-join}
+use Rattle.refusals.proofs.Limits.{neither}
+use Rattle.trial.specs.Record.{ArrayLengths}
 use Rattle.trial.specs.Refusals.{badCounts, trialRefusal}
 use Rattle.trial.specs.declared.Trial.{Trial}
 use Rattle.trialfile.specs.Words.{aOf, bOf, unusedOf, kOf, offersOf, pairsOf, digitsOf, codeOf, differenceOf, countOf, levelWord, shapeWord, offerWord, differenceWord, endWord}
@@ -35,7 +35,7 @@ trialOf-parts : (w0 w1 : ℕ) (os ds rest : List ℕ) → length os ≡ offersOf
 unfolding trialOf
 trialOf-parts w0 w1 os ds rest l m = rw (take-at os (ds ++ rest) (offersOf w1) l, drop-at os (ds ++ rest) (offersOf w1) l, take-at ds rest (offersOf w1 * pairsOf w1) m)
 
-module _ (t : Trial) (ty : Typed t) (h : trialRefusal t ≡ 0) where
+module _ (t : Trial) (ty : ArrayLengths t) (h : trialRefusal t ≡ 0) where
   pub offerWords-used : length (offerWords t) ≡ t .offers
   unfolding offerWords
   offerWords-used =

@@ -8,24 +8,23 @@
 --   otherKind kind w       the condition of 2: the word is missing or of another kind
 --   levelPlace, shapePlace             the level: 2, 3; the shape: 2, 4
 --   offerPlace, offerPlaces            an offer, n offers: at each 2, 5, 6
---   earlierCodes ws n      the numbers of the first n offers, the last of them first
 --   differencePlace, differencePlaces  a difference, n differences: at each 2, 7
 --   endPlace n             the end after n words: 2, 8
 --   bodyPlaces             the words after the shape: offers, differences, end
 --   placeChecks ws         all words, from the start
 --   fileChecks bytes       all conditions of a file, in order
 --   fileRefusal bytes      the number of the first that holds, or 0
---   answered n t           0 and the trial, or the number and the blank trial
---   readingOf bytes        what reading a file answers: the refusal, and the trial of an accepted file
+--   readingOf bytes        what reading a file answers: 0 and its trial, or the number of the refusal and the blank trial
 use Prim.Native.Nat.{ℕ, zero, suc, _+_, _*_, _%_}
 use mathlib.Core.Bool.{Bool, not, _||_}
 use mathlib.Core.List.{List, [], _∷_, _++_, map}
 use lib.ListN.{length, take, drop}
 use lib.Dec.{ltb, eqb}
 use lib.IntN.{ℤ, pos}
-use Rattle.stepdown.specs.Buffers.{padded}
-use Rattle.stepdown.specs.Refusals.{Checks, firstRefusal, badSizes, badLevel}
-use Rattle.trial.specs.Refusals.{badCounts, badDigits, has, earlierOf, badDifference}
+use Rattle.order.specs.Lists.{padded}
+use Rattle.refusals.specs.Answers.{r1, r2, r3, r4, r5, r6, r7, r8, Checks, answer, firstRefusal}
+use Rattle.refusals.specs.Limits.{badSizes, badLevel}
+use Rattle.trial.specs.Refusals.{badCounts, badDigits, among, badDifference}
 use Rattle.trial.specs.declared.Trial.{Trial}
 use Rattle.trialfile.specs.Words.{wordsOf, word, kindOf, levelKind, shapeKind, offerKind, differenceKind, endKind, aOf, bOf, unusedOf, kOf, offersOf, pairsOf, digitsOf, codeOf, differenceOf, countOf}
 use Rattle.trialfile.specs.declared.Reading.{Reading}
@@ -70,30 +69,25 @@ abbrev pub otherKind : ℕ → ℕ → Bool
 otherKind kind w = not (eqb (kindOf w) kind)
 
 abbrev pub levelPlace : ℕ → Checks
-levelPlace w = (otherKind levelKind w, 2) ∷ (badLevel (aOf w) (bOf w), 3) ∷ []
+levelPlace w = (otherKind levelKind w, r2) ∷ (badLevel (aOf w) (bOf w), r3) ∷ []
 
 abbrev pub shapePlace : ℕ → Checks
 shapePlace w =
-    (otherKind shapeKind w, 2)
-    ∷ (badCounts (kOf w) (offersOf w) (pairsOf w) || not (eqb (unusedOf w) 0), 4)
+    (otherKind shapeKind w, r2)
+    ∷ (badCounts (kOf w) (offersOf w) (pairsOf w) || not (eqb (unusedOf w) 0), r4)
     ∷ []
 
 -- an offer after the earlier ones, whose numbers are listed
 abbrev pub offerPlace : List ℕ → ℕ → Checks
-offerPlace earlier w = (otherKind offerKind w, 2) ∷ (badDigits (codeOf w) (digitsOf w), 5) ∷ (has (codeOf w) earlier, 6) ∷ []
+offerPlace earlier w = (otherKind offerKind w, r2) ∷ (badDigits (codeOf w) (digitsOf w), r5) ∷ (among (codeOf w) earlier, r6) ∷ []
 
 unfoldable pub offerPlaces : List ℕ → ℕ → List ℕ → Checks
-unfolding badDigits has
+unfolding badDigits among
 offerPlaces earlier zero ws = []
 offerPlaces earlier (suc n) ws = offerPlace earlier (word ws 0) ++ offerPlaces (codeOf (word ws 0) ∷ earlier) n (drop 1 ws)
 
--- the numbers of the first n offers, the last of them first
-unfoldable pub earlierCodes : List ℕ → ℕ → List ℕ
-unfolding earlierOf
-earlierCodes ws n = earlierOf n (map codeOf (drop 2 ws))
-
 abbrev pub differencePlace : ℕ → Checks
-differencePlace w = (otherKind differenceKind w, 2) ∷ (badDifference (differenceOf w), 7) ∷ []
+differencePlace w = (otherKind differenceKind w, r2) ∷ (badDifference (differenceOf w), r7) ∷ []
 
 unfoldable pub differencePlaces : ℕ → List ℕ → Checks
 unfolding badDifference
@@ -103,7 +97,7 @@ differencePlaces (suc n) ws = differencePlace (word ws 0) ++ differencePlaces n 
 abbrev pub endPlace : ℕ → List ℕ → Checks
 endPlace n ws =
     let w = word ws 0 in
-    (otherKind endKind w, 2) ∷ (not (eqb (countOf w) n) || ltb 1 (length ws), 8) ∷ []
+    (otherKind endKind w, r2) ∷ (not (eqb (countOf w) n) || ltb 1 (length ws), r8) ∷ []
 
 -- the words after the shape, for so many offers and pairs
 abbrev pub bodyPlaces : ℕ → ℕ → List ℕ → Checks
@@ -119,7 +113,7 @@ placeChecks ws = levelPlace (word ws 0) ++ (shapePlace (word ws 1) ++ bodyPlaces
 
 unfoldable pub fileChecks : List ℕ → Checks
 unfolding badLength wordsOf placeChecks
-fileChecks bytes = (badLength bytes, 1) ∷ placeChecks (wordsOf bytes)
+fileChecks bytes = (badLength bytes, r1) ∷ placeChecks (wordsOf bytes)
 
 unfoldable pub fileRefusal : List ℕ → ℕ
 unfolding firstRefusal fileChecks
@@ -127,10 +121,6 @@ fileRefusal bytes = firstRefusal (fileChecks bytes)
 
 -- ---- the answer
 
-abbrev pub answered : ℕ → Trial → Reading
-answered zero t = record { refusal = 0; trial = t }
-answered (suc n) t = record { refusal = suc n; trial = blank }
-
 unfoldable pub readingOf : List ℕ → Reading
-unfolding fileRefusal trialOf wordsOf
-readingOf bytes = answered (fileRefusal bytes) (trialOf (wordsOf bytes))
+unfolding answer fileChecks trialOf wordsOf
+readingOf bytes = answer (fileChecks bytes) (record { refusal = 0; trial = trialOf (wordsOf bytes) }) (λ n. record { refusal = n; trial = blank })

@@ -5,16 +5,15 @@
 --   fileOf t               its bytes
 --   fileLength t           how many bytes these are
 --   trimmed t              the trial with zero in every place that its counts don't use
---   writeRefusal t places  of writing t into so many places: what the record is turned away for, then 12
---   writingOf t places     what writing answers: the refusal, and the length of the written file
---   afterWriting t buf     what the buffer holds afterwards
+--   writeChecks t places   of writing t into so many places: what the record is turned away for, then 12
+--   writeRefusal t places  the number of the first that holds, or 0
+--   writingOf t places     what writing answers: 0 and the length of the file, or the number of the refusal and 0
+--   afterWriting t buf     the buffer after it: the file in its first places, or unchanged where the call is refused
 use Prim.Native.Nat.{ℕ, _+_, _*_}
-use mathlib.Core.Bool.{cond}
 use mathlib.Core.List.{List, [], _∷_, _++_, map, zipWith}
 use lib.ListN.{length, take}
-use lib.Dec.{eqb}
-use Rattle.stepdown.specs.Refusals.{firstRefusal, tooShort}
-use Rattle.stepdown.specs.Buffers.{written, afterCall}
+use Rattle.refusals.specs.Answers.{Checks, answer, firstRefusal, afterwards}
+use Rattle.refusals.specs.Buffers.{tooShort, written}
 use Rattle.trial.specs.Refusals.{trialChecks}
 use Rattle.trial.specs.declared.Trial.{Trial}
 use Rattle.trialfile.specs.Words.{bytesOf, levelWord, shapeWord, offerWord, differenceWord, endWord}
@@ -47,14 +46,18 @@ trimmed t =
     filled (t .a) (t .b) (t .k) (t .offers) (t .pairs) (take (t .offers) (t .codes)) (take (t .offers) (t .digits))
     (take (t .offers * t .pairs) (t .differences))
 
+unfoldable pub writeChecks : Trial → ℕ → Checks
+unfolding trialChecks
+writeChecks t places = trialChecks t ++ tooShort places (fileLength t)
+
 unfoldable pub writeRefusal : Trial → ℕ → ℕ
-unfolding firstRefusal trialChecks
-writeRefusal t places = firstRefusal (trialChecks t ++ tooShort places (fileLength t))
+unfolding firstRefusal writeChecks
+writeRefusal t places = firstRefusal (writeChecks t places)
 
 unfoldable pub writingOf : Trial → ℕ → Writing
-unfolding writeRefusal
-writingOf t places = record { refusal = writeRefusal t places; length = cond (eqb (writeRefusal t places) 0) (fileLength t) 0 }
+unfolding answer writeChecks
+writingOf t places = answer (writeChecks t places) (record { refusal = 0; length = fileLength t }) (λ n. record { refusal = n; length = 0 })
 
 unfoldable pub afterWriting : Trial → List ℕ → List ℕ
-unfolding writeRefusal fileOf
-afterWriting t buf = afterCall (writeRefusal t (length buf)) (written (fileOf t) buf) buf
+unfolding answer writeChecks fileOf
+afterWriting t buf = afterwards (writeChecks t (length buf)) (written (fileOf t) buf) buf

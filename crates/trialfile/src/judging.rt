@@ -5,10 +5,11 @@ ghost use mathlib.Core.Path.{_≡_};
 ghost use mathlib.Core.List.{[]};
 ghost use Prim.Native.Nat.{_+_, _<_, _≤_};
 ghost use lib.ListN.{drop};
-ghost use Rattle.stepdown.specs.Refusals.{firstRefusal};
-ghost use Rattle.trial.specs.Refusals.{has};
+ghost use Rattle.refusals.specs.Answers.{firstRefusal};
+ghost use Rattle.trial.specs.Refusals.{among};
 ghost use Rattle.trialfile.specs.Words.{wordsOf, word};
-ghost use Rattle.trialfile.specs.Files.{badLength, levelPlace, shapePlace, offerPlace, offerPlaces, earlierCodes, differencePlace, differencePlaces, endPlace, bodyPlaces, fileRefusal};
+ghost use Rattle.trialfile.specs.Internal.{earlierCodes};
+ghost use Rattle.trialfile.specs.Files.{badLength, levelPlace, shapePlace, offerPlace, offerPlaces, differencePlace, differencePlaces, endPlace, bodyPlaces, fileRefusal};
 
 // the condition of 1
 fn bad_length(file: &[u8]) -> bool
@@ -26,7 +27,7 @@ fn bad_length(file: &[u8]) -> bool
 // the condition of 6: one of the first n offers has the number
 fn seen(file: &[u8], n: usize, code: u32) -> bool
     requires { ⌜ n ≤ 16 ⌝ }
-    ensures { λ r. ⌜ r ≡ has code (earlierCodes (wordsOf (now (file .entry))) n) ⌝ }
+    ensures { λ r. ⌜ r ≡ among code (earlierCodes (wordsOf (now (file .entry))) n) ⌝ }
 {
     let mut i = n;
     while 0 < i {
@@ -45,7 +46,7 @@ fn judge_level(file: &[u8]) -> u32
 {
     let w = word::word_at(file, 0);
     let other = w / 268435456 != 1;
-    let bad = stepdown::bad_level((w / 16384 % 16384) as usize, (w % 16384) as usize);
+    let bad = refusals::bad_level((w / 16384 % 16384) as usize, (w % 16384) as usize);
     let three = first_of(bad, 3, 0);
     first_of(other, 2, three)
 }

@@ -6,7 +6,7 @@ ghost use mathlib.Core.List.{map};
 ghost use Prim.Native.Nat.{_+_, _≤_};
 ghost use lib.ListN.{length, take, drop};
 ghost use lib.IntN.{pos};
-ghost use Rattle.stepdown.specs.Buffers.{padded};
+ghost use Rattle.order.specs.Lists.{padded};
 ghost use Rattle.trialfile.specs.Words.{wordsOf, codeOf, digitsOf, differenceOf};
 ghost use Rattle.trialfile.specs.Files.{blank, trialOf, fileRefusal};
 

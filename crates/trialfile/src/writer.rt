@@ -5,8 +5,8 @@ ghost use mathlib.Core.Path.{_≡_};
 ghost use Prim.Native.Nat.{_+_, _*_, _<_, _≤_};
 ghost use lib.ListN.{length};
 ghost use lib.Seq.{sets};
-ghost use Rattle.stepdown.specs.Buffers.{written};
-ghost use Rattle.trial.specs.Record.{Typed};
+ghost use Rattle.refusals.specs.Buffers.{written};
+ghost use Rattle.trial.specs.Record.{ArrayLengths};
 ghost use Rattle.trial.specs.Refusals.{trialRefusal};
 ghost use Rattle.trialfile.specs.Words.{wordBytes, word};
 ghost use Rattle.trialfile.specs.Files.{wordsBefore};
@@ -25,7 +25,7 @@ fn put_word(out: &mut [u8], i: usize, w: u32)
 
 // the word at place i of an accepted trial's file
 fn word_of(t: Trial, i: usize) -> u32
-    requires { ⌜ (Typed t) × (trialRefusal t ≡ 0) × (i ≤ wordsBefore t) ⌝ }
+    requires { ⌜ (ArrayLengths t) × (trialRefusal t ≡ 0) × (i ≤ wordsBefore t) ⌝ }
     ensures { λ r. ⌜ r ≡ word (fileWords t) i ⌝ }
 {
     if i == 0 {
@@ -47,7 +47,7 @@ fn word_of(t: Trial, i: usize) -> u32
 
 // the n words of an accepted trial's file into the buffer's first places
 pub(crate) fn write_words(t: Trial, n: usize, out: &mut [u8])
-    requires { ⌜ (Typed t) × (trialRefusal t ≡ 0) × (n ≡ wordsBefore t + 1) × (4 * n ≤ length (now out)) ⌝ }
+    requires { ⌜ (ArrayLengths t) × (trialRefusal t ≡ 0) × (n ≡ wordsBefore t + 1) × (4 * n ≤ length (now out)) ⌝ }
     ensures { λ _. ⌜ now (out .exit) ≡ written (fileOf t) (now (out .entry)) ⌝ }
 {
     let mut at: usize = 0;

@@ -2,9 +2,9 @@
 --   equal-itself    a value that equals itself is a number
 --   at-most-inf     so are bits that are not above those of infinity, the sign left out
 use Prim.Native.Nat.{ℕ, _≤_, _%_}
-use mathlib.Core.Path.{_≡_, refl, sym, ap, subst, _∙_}
-use mathlib.Core.Bool.{Bool, true, false, not}
-use lib.Dec.{T, ltb}
+use mathlib.Core.Path.{_≡_, sym, subst, _∙_}
+use mathlib.Core.Bool.{Bool, true, not}
+use lib.Dec.{T}
 use lib.Ieee.{Float, nan, inf, fin, binary64, eq, isNan, nanBits}
 use lib.Ieee.Bits.{nanBits-above}
 use borrow.Author.Tests.{le-ltb}

@@ -1,30 +1,29 @@
--- Laws of i32 values: from 32 bits, and to a magnitude.
---   wide-fits, minus-fits, minus-casts, casts     of a value d, for its magnitude
---   less-fits, less-casts                         of bits w in the upper half
-use Prim.Native.Nat.{ℕ, zero, suc, _-_, _≤_, _<_, _^_}
+-- Laws of i32 values: a value d and the number d + 2^31, each from the other.
+--   wide-fits, plus-fits, plus-casts     of a value d
+--   less-fits, less-casts                of 32 bits of a number n
+use Prim.Native.Nat.{ℕ, suc, _+_, _-_, _<_, _^_, _%_}
 use native.Mathlib.Omega.{arith}
-use mathlib.Core.Path.{_≡_, refl, sym, ap, _∙_, subst}
+use mathlib.Core.Path.{_≡_, refl, _∙_}
 use mathlib.Core.Bool.{Bool, true, false}
 use lib.Dec.{T, ltb}
-use lib.IntN.{ℤ, pos, negsuc, natAbs, _-ℤ_}
-use lib.Signed.{mag, ltZ, nonNeg}
-use borrow.Author.Tests.{lt-ltb, ltb-true}
+use lib.IntN.{ℤ, pos, negsuc, natAbs, _+ℤ_, _-ℤ_}
+use lib.Signed.{mag, nonNeg}
+use borrow.Author.Tests.{lt-ltb, le-ltb, ltb-true, ltb-false}
 use mir.Syntax.{w32, w64}
 use mir.Val.{Fits, SFits, toZ, ofZ}
 use mir.ValLaws.{toZ-ofZ}
-use Rattle.order.proofs.Booleans.{never}
 
-minus-mag : (d : ℤ) → mag d < 2 ^ 31 → ltZ d (pos 0) ≡ true → mag (pos 0 -ℤ d) < 2 ^ 63
-minus-mag (pos n) h t = absurd (omega (arith, ltb-true n 0 t))
-minus-mag (negsuc n) h t = omega arith
+abbrev number : ℤ → ℕ
+number (pos n) = n + 2147483648
+number (negsuc n) = 2147483647 - n
 
-minus-small : (d : ℤ) → mag d < 2 ^ 31 → ltZ d (pos 0) ≡ true → T (nonNeg (pos 0 -ℤ d)) × Fits w64 (natAbs (pos 0 -ℤ d))
-minus-small (pos n) h t = absurd (omega (arith, ltb-true n 0 t))
-minus-small (negsuc n) h t = (tt, record { fits = omega arith })
+number-is : (d : ℤ) → mag d < 2 ^ 31 → d +ℤ pos 2147483648 ≡ pos (number d)
+number-is (pos n) h = refl
+number-is (negsuc n) h = let e : 2147483648 - suc n ≡ 2147483647 - n = omega arith in simp (le-ltb 2147483648 (suc n) (omega arith), e)
 
-small : (d : ℤ) → mag d < 2 ^ 31 → ltZ d (pos 0) ≡ false → T (nonNeg d) × Fits w64 (natAbs d)
-small (pos n) h t = (tt, record { fits = omega arith })
-small (negsuc n) h t = absurd (never true t tt)
+number-small : (d : ℤ) → mag d < 2 ^ 31 → number d < 2 ^ 32
+number-small (pos n) h = omega arith
+number-small (negsuc n) h = omega arith
 
 module _ (d : ℤ) (f : SFits w32 d) where
   same : toZ w32 (ofZ w32 d) ≡ d
@@ -36,35 +35,28 @@ module _ (d : ℤ) (f : SFits w32 d) where
   widened : toZ w64 (ofZ w64 (toZ w32 (ofZ w32 d))) ≡ d
   widened = toZ-ofZ w64 (toZ w32 (ofZ w32 d)) wide-fits ∙ same
 
-  module _ (t : ltZ (toZ w32 (ofZ w32 d)) (pos 0) ≡ true) where
-    negative : ltZ d (pos 0) ≡ true
-    negative = ap (λ (z : ℤ). ltZ z (pos 0)) (sym same) ∙ t
+  pub plus-fits : SFits w64 (toZ w64 (ofZ w64 (toZ w32 (ofZ w32 d))) +ℤ pos 2147483648)
+  plus-fits = rw (widened, number-is d (f .sfits)) (record { sfits = omega (arith, number-small d (f .sfits)) })
 
-    pub minus-fits : SFits w64 (pos 0 -ℤ toZ w64 (ofZ w64 (toZ w32 (ofZ w32 d))))
-    minus-fits = rw widened (record { sfits = minus-mag d (f .sfits) negative })
+  plus : toZ w64 (ofZ w64 (toZ w64 (ofZ w64 (toZ w32 (ofZ w32 d))) +ℤ pos 2147483648)) ≡ pos (number d)
+  plus = toZ-ofZ w64 _ plus-fits ∙ rw widened (number-is d (f .sfits))
 
-    minus : toZ w64 (ofZ w64 (pos 0 -ℤ toZ w64 (ofZ w64 (toZ w32 (ofZ w32 d))))) ≡ pos 0 -ℤ d
-    minus = toZ-ofZ w64 _ minus-fits ∙ ap (λ (z : ℤ). pos 0 -ℤ z) widened
+  pub plus-casts : T (nonNeg (toZ w64 (ofZ w64 (toZ w64 (ofZ w64 (toZ w32 (ofZ w32 d))) +ℤ pos 2147483648)))) × Fits w64 (natAbs (toZ w64 (ofZ w64 (toZ w64 (ofZ w64 (toZ w32 (ofZ w32 d))) +ℤ pos 2147483648))))
+  plus-casts = rw plus (tt, record { fits = omega (arith, number-small d (f .sfits)) })
 
-    pub minus-casts : T (nonNeg (toZ w64 (ofZ w64 (pos 0 -ℤ toZ w64 (ofZ w64 (toZ w32 (ofZ w32 d))))))) × Fits w64 (natAbs (toZ w64 (ofZ w64 (pos 0 -ℤ toZ w64 (ofZ w64 (toZ w32 (ofZ w32 d)))))))
-    minus-casts = rw minus (minus-small d (f .sfits) negative)
+less-mag : (w : ℕ) → w < 2 ^ 32 → mag (pos w -ℤ pos 2147483648) < 2 ^ 31
+less-mag w h = go (ltb w 2147483648) refl
+  where
+    go : (t : Bool) → ltb w 2147483648 ≡ t → mag (pos w -ℤ pos 2147483648) < 2 ^ 31
+    go true e = simp e (omega (arith, ltb-true w 2147483648 e))
+    go false e = simp e (omega (arith, ltb-false w 2147483648 e))
 
-  pub casts : ltZ (toZ w32 (ofZ w32 d)) (pos 0) ≡ false → T (nonNeg (toZ w32 (ofZ w32 d))) × Fits w64 (natAbs (toZ w32 (ofZ w32 d)))
-  casts t = rw same (small d (f .sfits) (ap (λ (z : ℤ). ltZ z (pos 0)) (sym same) ∙ t))
+module _ (n : ℕ) (_ : Fits w64 n) where
+  small : toZ w64 (n % 4294967296) ≡ pos (n % 4294967296)
+  small = simp (lt-ltb (n % 4294967296) (2 ^ 63) (omega arith))
 
--- ---- from 32 bits
+  pub less-fits : SFits w64 (toZ w64 (n % 4294967296) -ℤ pos 2147483648)
+  less-fits = rw small (record { sfits = omega (arith, less-mag (n % 4294967296) (omega arith)) })
 
-toZ-small : (w : ℕ) → w < 2 ^ 63 → toZ w64 w ≡ pos w
-toZ-small w h = simp (lt-ltb w (2 ^ 63) h)
-
-module _ (w : ℕ) (lo : 2147483648 ≤ w) (hi : w < 4294967296) where
-  less : toZ w64 w -ℤ pos 4294967296 ≡ negsuc (4294967295 - w)
-  less =
-      let e : 4294967296 - suc w ≡ 4294967295 - w = omega arith in
-      rw (toZ-small w (omega arith)) (simp (lt-ltb w 4294967296 hi, e))
-
-  pub less-fits : SFits w64 (toZ w64 w -ℤ pos 4294967296)
-  less-fits = rw less (record { sfits = omega arith })
-
-  pub less-casts : SFits w32 (toZ w64 (ofZ w64 (toZ w64 w -ℤ pos 4294967296)))
-  less-casts = rw (toZ-ofZ w64 _ less-fits, less) (record { sfits = omega arith })
+  pub less-casts : SFits w32 (toZ w64 (ofZ w64 (toZ w64 (n % 4294967296) -ℤ pos 2147483648)))
+  less-casts = rw (toZ-ofZ w64 _ less-fits, small) (record { sfits = less-mag (n % 4294967296) (omega arith) })

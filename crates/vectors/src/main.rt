@@ -1,116 +1,66 @@
-// The test program: reads framed cases from standard input and prints what the library answers to each.
-// A frame is its kind and the length of its body, 4 bytes each, then the body.
-mod answers; // runs, records and full runs as text
-mod bits; // f64 values and their bits
+// The test program: reads cases from standard input and prints what the library answers to each. tests/frames.py tells the input,
+// tests/answers.py the output.
+mod answers; // runs and full runs as numbers of a line
+mod bits; // f64 values as numbers
 mod files; // cases of a file: reader, full run, report
-mod frames; // the numbers of a frame
-mod lent; // lent buffers: marked before a call, printed after it
-mod lists; // lists without their blank places
+mod input; // the numbers of the input
+mod pen; // the lines of the output
 mod records; // cases of a trial given as a record
-mod runs; // cases of runs: begun, one step, every step
-mod sums; // checksums
-mod tables; // cases of a lent table
-mod text; // text into a byte buffer
-mod trials; // trials in frames and as text
+mod steps; // cases of runs: their beginning, their steps
+mod tables; // cases of a lent table: full runs, and places of a view
+mod trials; // trials in the input and in the output
 
-use libc::STDIN_FILENO;
-use libc::STDOUT_FILENO;
-
-// The seed of the generated cases, as the frame tells it.
-fn seed(body: &[u8], out: &mut [u8]) -> usize {
-    let n = text::bytes(out, 0, b"seed");
-    let m = text::number(out, n, frames::size(body, 0));
-    text::line(out, m)
+// The seed of the generated cases, as the input tells it.
+fn seed() {
+    pen::end(pen::start(b"seed", 1, input::word()));
 }
 
-// A case with a lent table: the places of the table and of the work buffer are those that the frame tells.
-fn over_table(
-    kind: u64,
-    body: &[u8],
-    cells: &mut [f64],
-    work: &mut [f64],
-    out: &mut [u8],
-) -> usize {
-    let n = frames::values_of(frames::size(body, 7), cells);
-    let m = frames::values_of(frames::size(body, 6), work);
-    if kind == 3 {
-        return tables::answer(body, &mut cells[..n], &mut work[..m], out);
-    }
-    if kind == 5 {
-        return runs::answer_step(body, &mut cells[..n], &mut work[..m], out);
-    }
-    runs::answer_walk(body, &mut cells[..n], &mut work[..m], out)
-}
-
-fn answer(
-    kind: u64,
-    body: &[u8],
-    buffer: &mut [u8],
-    cells: &mut [f64],
-    work: &mut [f64],
-    out: &mut [u8],
-) -> usize {
+// A case of a table, which the input tells first.
+fn over_table(kind: usize, cells: &mut [f64], work: &mut [f64]) {
+    tables::load(cells);
     match kind {
-        0 => seed(body, out),
-        1 => files::answer(body, buffer, out),
-        2 => records::answer(body, buffer, cells, work, out),
-        4 => runs::answer_begin(body, out),
-        3 | 5 | 6 => over_table(kind, body, cells, work, out),
-        _ => text::bytes(out, 0, b"no such kind\n"),
+        4 => tables::answer(cells, work),
+        5 => steps::answer_begin(cells),
+        6 => steps::answer(cells, work),
+        _ => tables::answer_look(cells),
     }
 }
 
-fn print(out: &[u8], n: usize) -> bool {
-    let end = frames::bytes_of(n, out);
-    io::write_all(STDOUT_FILENO, &out[..end])
+fn answer(kind: usize, bytes: &mut [u8], cells: &mut [f64], work: &mut [f64]) {
+    match kind {
+        1 => seed(),
+        2 => files::answer(bytes),
+        3 => records::answer(bytes, cells, work),
+        _ => over_table(kind, cells, work),
+    }
 }
 
-// Reads a body of that length, answers it and prints the text.
-fn framed(
-    kind: u64,
-    body: &mut [u8],
-    buffer: &mut [u8],
-    cells: &mut [f64],
-    work: &mut [f64],
-    out: &mut [u8],
-) -> bool {
-    let got = io::read_full(STDIN_FILENO, body);
-    if got < body.len() {
+// A case: its kind, the rooms of the buffers that are lent, and what its kind needs. Each place of a buffer holds 7; the cells are
+// told by the case.
+fn lend(kind: usize, space: &mut [f64]) {
+    let mut bytes = [7u8; 3072];
+    let mut work = [7.0f64; 4104];
+    let k = input::bytes_of(input::word(), &bytes);
+    let n = input::values_of(input::word(), space);
+    let m = input::values_of(input::word(), &work);
+    answer(kind, &mut bytes[..k], &mut space[..n], &mut work[..m]);
+}
+
+// One case. False where the input has ended.
+fn one(space: &mut [f64]) -> bool {
+    let kind = input::word();
+    if kind == 0 {
         return false;
     }
-    let n = answer(kind, body, buffer, cells, work, out);
-    print(out, n)
+    lend(kind, space);
+    true
 }
 
-// One frame. False where the input ends.
-fn one(
-    body: &mut [u8],
-    buffer: &mut [u8],
-    cells: &mut [f64],
-    work: &mut [f64],
-    out: &mut [u8],
-) -> bool {
-    let mut head = [0u8; 8];
-    let got = io::read_full(STDIN_FILENO, &mut head);
-    if got < 8 {
-        return false;
-    }
-    let kind = frames::short(&head, 0);
-    let size = frames::bytes_of(frames::short(&head, 4) as usize, body);
-    framed(kind, &mut body[..size], buffer, cells, work, out)
-}
-
-// Frames until the input ends.
-fn every_frame(
-    body: &mut [u8],
-    buffer: &mut [u8],
-    cells: &mut [f64],
-    work: &mut [f64],
-    out: &mut [u8],
-) {
+// Cases until the input ends.
+fn every_case(space: &mut [f64]) {
     let mut left: u32 = 1000000;
     while 0 < left {
-        if one(body, buffer, cells, work, out) {
+        if one(space) {
             left -= 1;
         } else {
             left = 0;
@@ -118,12 +68,8 @@ fn every_frame(
     }
 }
 
-// The buffers are those of the largest cases: 4,096 rows of 33 columns, a report of 3,000 bytes, and some more.
+// Room for the largest table: 4,096 rows of 33 columns.
 fn main() {
-    let mut body = [0u8; 65536];
-    let mut buffer = [0u8; 3072];
-    let mut cells = [0.0f64; 135168];
-    let mut work = [0.0f64; 4104];
-    let mut out = [0u8; 65536];
-    every_frame(&mut body, &mut buffer, &mut cells, &mut work, &mut out);
+    let mut space = [0.0f64; 135168];
+    every_case(&mut space);
 }

@@ -1,67 +1,80 @@
-// A lent table: its values in a frame, and its full run.
+// A lent table: read from the input, and put to the calls, by themselves or through a view.
 use super::answers;
-use super::frames;
-use super::lent;
-use super::text;
-use stepdown::FullRun;
+use super::bits;
+use super::input;
+use super::pen;
+use runs::FullRun;
+use stepdown::Run;
+use view::Entry;
 
-// Entry i: one of the values that are laid over the table from a place on, or else one of those that are written, which repeat.
-fn entry(written: &[u8], laid: &[u8], place: usize, i: usize) -> f64 {
-    if place <= i {
-        if i - place < laid.len() / 8 {
-            return frames::value(laid, i - place);
+// The next value: of the input, or one that stands there already, a period before.
+fn next(cells: &[f64], i: usize, given: bool, period: usize) -> f64 {
+    if given {
+        return input::value();
+    }
+    if period <= i {
+        let earlier = i - period;
+        if earlier < cells.len() {
+            return cells[earlier];
         }
     }
-    let n = written.len() / 8;
-    if n == 0 {
-        return 0.0;
-    }
-    frames::value(written, i % n)
+    0.0
 }
 
-fn fill(cells: &mut [f64], written: &[u8], laid: &[u8], place: usize) {
+// The values of the whole buffer: so many stand in the input, and each later one is the one that stands a period before it.
+pub(crate) fn load(cells: &mut [f64]) {
+    let written = input::word();
+    let period = input::word();
     let mut i: usize = 0;
     while i < cells.len() {
-        cells[i] = entry(written, laid, place, i);
+        cells[i] = next(cells, i, i < written, period);
         i += 1;
     }
 }
 
-// The values of a frame into the whole buffer. They stand after 13 numbers, those that repeat first.
-pub(crate) fn load(body: &[u8], cells: &mut [f64]) {
-    if body.len() < 104 {
-        return;
+// The figures of a run, whatever they are.
+pub(crate) fn run() -> Run {
+    Run {
+        rows: input::word(),
+        columns: input::word(),
+        k: input::word(),
+        a: input::word(),
+        b: input::word(),
+        observed: input::word(),
+        rejected: (input::word() % 4294967296) as u32,
+        steps: input::word(),
+        ended: input::word() != 0,
     }
-    let all = &body[104..];
-    let split = frames::bytes_of(frames::size(body, 8), all);
-    fill(cells, &all[..split], &all[split..], frames::size(body, 9));
 }
 
-fn full_run(body: &[u8], cells: &[f64], work: &mut [f64]) -> FullRun {
-    stepdown::full_run(
+fn full_run(r: Run, cells: &[f64], work: &mut [f64]) -> FullRun {
+    if input::word() != 0 {
+        return view::full_run_at(cells, work, r.rows, r.columns, r.k, r.a, r.b, r.observed);
+    }
+    stepdown::full_run(cells, work, r.rows, r.columns, r.k, r.a, r.b, r.observed)
+}
+
+// The full run of a table with a run's figures, and the work buffer.
+pub(crate) fn answer(cells: &[f64], work: &mut [f64]) {
+    let f = full_run(run(), cells, work);
+    pen::end(pen::values(answers::full_run(24, f), work));
+}
+
+// The value at a place of a view: 1 and the value, or 0.
+fn print(e: Entry) {
+    match e {
+        Entry::Value(x) => pen::end(pen::put(pen::start(b"look", 2, 1), bits::of(x))),
+        Entry::Outside => pen::end(pen::start(b"look", 1, 0)),
+    }
+}
+
+// Rows, columns, row and column.
+pub(crate) fn answer_look(cells: &[f64]) {
+    print(view::look_at(
         cells,
-        work,
-        frames::size(body, 0),
-        frames::size(body, 1),
-        frames::size(body, 2),
-        frames::size(body, 3),
-        frames::size(body, 4),
-        frames::size(body, 5),
-    )
-}
-
-fn print(out: &mut [u8], f: FullRun, work: &[f64]) -> usize {
-    let mut n = text::bytes(out, 0, b"run");
-    n = answers::full_run(out, n, f);
-    n = text::byte(out, n, b';');
-    n = lent::values(out, n, work);
-    text::line(out, n)
-}
-
-// The full run of a table, with the work buffer.
-pub(crate) fn answer(body: &[u8], cells: &mut [f64], work: &mut [f64], out: &mut [u8]) -> usize {
-    load(body, cells);
-    lent::mark_values(work);
-    let f = full_run(body, cells, work);
-    print(out, f, work)
+        input::word(),
+        input::word(),
+        input::word(),
+        input::word(),
+    ));
 }

@@ -5,30 +5,31 @@
 use Prim.Native.Nat.{ℕ, _+_, _≤_, _<_}
 use native.Mathlib.Omega.{arith}
 use native.Mathlib.Numerals.{add-one}
-use mathlib.Core.Path.{_≡_, refl, sym, ap, _∙_}
+use mathlib.Core.Path.{_≡_, sym, ap, _∙_}
 use mathlib.Core.Bool.{Bool}
-use mathlib.Core.List.{List, [], _∷_, _++_}
+use mathlib.Core.List.{List, [], _∷_}
 use lib.ListN.{length, getD, take, length-take}
 use lib.Seq.{take-suc, take-all}
 use Rattle.order.specs.Counting.{bit, count}
 use Rattle.order.proofs.Counts.{count-append, count-length}
-use Rattle.stepdown.specs.declared.Judged.{Judged}
-use Rattle.verdicts.specs.Verdicts.{isRejected, rejectedCount}
+use Rattle.runs.specs.FullRuns.{isRejected}
+use Rattle.runs.specs.declared.Decision.{Decision}
+use Rattle.verdicts.specs.Verdicts.{rejectedCount}
 
-pub count-most : (n : ℕ) (js : List Judged) → rejectedCount n js ≤ length js
+pub count-most : (n : ℕ) (js : List Decision) → rejectedCount n js ≤ length js
 unfolding rejectedCount
-count-most n js = omega (arith, count-length (λ (j : Judged). isRejected (j .verdict)) (take n js), length-take n js)
+count-most n js = omega (arith, count-length (λ (j : Decision). isRejected (j .verdict)) (take n js), length-take n js)
 
-pub count-few : (n : ℕ) (js : List Judged) → rejectedCount n js ≤ n
+pub count-few : (n : ℕ) (js : List Decision) → rejectedCount n js ≤ n
 unfolding rejectedCount
-count-few n js = omega (arith, count-length (λ (j : Judged). isRejected (j .verdict)) (take n js), length-take n js)
+count-few n js = omega (arith, count-length (λ (j : Decision). isRejected (j .verdict)) (take n js), length-take n js)
 
-pub count-on : (i : ℕ) (js : List Judged) (d : Judged) (total : ℕ) → i < length js → total ≡ rejectedCount i js → total + bit (isRejected (getD js i d .verdict)) ≡ rejectedCount (i + 1) js
+pub count-on : (i : ℕ) (js : List Decision) (d : Decision) (total : ℕ) → i < length js → total ≡ rejectedCount i js → total + bit (isRejected (getD js i d .verdict)) ≡ rejectedCount (i + 1) js
 unfolding rejectedCount count
 count-on i js d total h e =
-    let p : Judged → Bool = λ j. isRejected (j .verdict) in
+    let p : Decision → Bool = λ j. isRejected (j .verdict) in
     sym (ap (λ (n : ℕ). count p (take n js)) (add-one i) ∙ ap (count p) (take-suc js i d h) ∙ count-append p (take i js) (getD js i d ∷ []) ∙ omega (arith, e))
 
-pub count-end : (i n : ℕ) (js : List Judged) → length js ≤ i → i ≤ n → rejectedCount i js ≡ rejectedCount n js
+pub count-end : (i n : ℕ) (js : List Decision) → length js ≤ i → i ≤ n → rejectedCount i js ≡ rejectedCount n js
 unfolding rejectedCount
-count-end i n js h k = ap (count (λ (j : Judged). isRejected (j .verdict))) (take-all i js h ∙ sym (take-all n js (omega arith)))
+count-end i n js h k = ap (count (λ (j : Decision). isRejected (j .verdict))) (take-all i js h ∙ sym (take-all n js (omega arith)))

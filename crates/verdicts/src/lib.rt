@@ -1,10 +1,11 @@
 // What is read off the verdicts of a full run: which step rejected, and how many are rejected. The report and the C calls tell these.
-use stepdown::Judged;
-use stepdown::Verdict;
+use runs::Decision;
+use runs::Verdict;
 ghost use mathlib.Core.Path.{_≡_};
 ghost use Prim.Native.Nat.{_≤_};
-ghost use Rattle.verdicts.specs.Verdicts.{isRejected, rejectingStep, rejectedCount};
 ghost use Rattle.order.specs.Counting.{bit};
+ghost use Rattle.runs.specs.FullRuns.{isRejected, rejectingStep};
+ghost use Rattle.verdicts.specs.Verdicts.{rejectedCount};
 
 // The step that rejected, and 0 where the verdict is kept.
 pub fn rejecting_step(v: Verdict) -> usize
@@ -27,8 +28,8 @@ fn tally(v: Verdict) -> usize
 }
 
 // How many of the first n verdicts are rejected; of all 32 where n is more.
-pub fn rejected_count(judged: [Judged; 32], n: usize) -> usize
-    ensures { λ r. ⌜ r ≡ rejectedCount n judged ⌝ }
+pub fn rejected_count(decisions: [Decision; 32], n: usize) -> usize
+    ensures { λ r. ⌜ r ≡ rejectedCount n decisions ⌝ }
 {
     let mut total: usize = 0;
     let mut i: usize = 0;
@@ -36,8 +37,8 @@ pub fn rejected_count(judged: [Judged; 32], n: usize) -> usize
         if i == 32 {
             return total;
         }
-        let j = judged[i];
-        let v = j.verdict;
+        let d = decisions[i];
+        let v = d.verdict;
         total += tally(v);
         i += 1;
     }

@@ -2,6 +2,7 @@
 --   Held κ, Lent κ            the types of a view and of its values, at the lifetime κ, a signature's first
 --   slice x, lowered d        the machine values of a slice and of a view.        view-tells, view-typed    a view has that one, which is of its MIR type
 --   apart, together           what a view owns gives what its values, its rows and its columns own, and back
+--   made                      the values, the rows and the columns are the first parameters: what they own gives what a view of them owns, before the rest
 use mathlib.Core.Path.{_≡_}
 use mathlib.Core.List.{List, [], _∷_}
 use lib.Dec.{T as Holds}
@@ -9,7 +10,7 @@ use lib.ListN.{length}
 use lib.Ieee.{Float}
 use mir.Syntax.{Lifetime, named}
 use mir.Val.{WT, hasTy}
-use base.Fml.{Lft}
+use base.Fml.{Fml, Lft, fsep}
 use types.Kit.{Item, Goal, Step, step, given, use1, learn}
 use denote.RattleType.{RattleType}
 use denote.Laws.{Tells}
@@ -56,3 +57,11 @@ module _ {M : Type 1} {𝓤 : URA M} {H : Heap 𝓤} {A : Atoms 𝓤} {K : Type 
   together t κ d = step (λ s.
       nothing t $ move t (3 ∷ 0 ∷ []) $ fjoin t $ move t (2 ∷ 0 ∷ []) $ fjoin t $ move t (1 ∷ 0 ∷ []) $ fjoin t $
       use1 W (‵ (Held κ .own d (lowered d ∷ []))) (own-shut 𝓤 H A W (T.the-type (first-of κ)) (T′.the-laws (first-of κ)) (d .values, (d .rows, (d .columns, tt)))) $ s)
+
+module _ {M : Type 1} {𝓤 : URA M} {H : Heap 𝓤} {A : Atoms 𝓤} {K : Type 0} {W : Given 𝓤 H A} {Γ : List (Item 𝓤)} {G : Goal 𝓤 H} where
+  pub made : K → (κ : Lft) (d : View) (R : Fml)
+      → Step K W (‵ (fsep (Held κ .own d (lowered d ∷ [])) R) ∷ Γ) G (‵ (fsep (Lent κ .own (d .values) (slice (d .values) ∷ [])) (fsep (usize .own (d .rows) (word (d .rows) ∷ [])) (fsep (usize .own (d .columns) (word (d .columns) ∷ [])) R))) ∷ Γ) G
+  made t κ d R = step (λ s.
+      fsplit t $ move t (1 ∷ []) $ fsplit t $ move t (1 ∷ []) $ fsplit t $
+      -- [the columns; the rest; the rows; the values]
+      move t (3 ∷ 2 ∷ 0 ∷ []) $ together t κ d $ fjoin t $ s)

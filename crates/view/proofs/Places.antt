@@ -12,9 +12,9 @@ use lib.ListN.{length, getD}
 use lib.Dec.{ltb, ltb→lt, lt→ltb}
 use lib.Ieee.{Float, nan}
 use Rattle.order.proofs.Booleans.{T-true, T-false, and-left, and-right, and-both}
-use Rattle.stepdown.specs.Tables.{rowsOf}
-use Rattle.stepdown.proofs.Rows.{row-entry}
-use Rattle.stepdown.proofs.Filling.{part-rows}
+use Rattle.order.specs.Lists.{rowsOf}
+use Rattle.order.proofs.Lists.{row-entry}
+use Rattle.order.proofs.Lists.{part-rows}
 use Rattle.view.specs.Entries.{entryOf}
 use Rattle.view.specs.declared.Entry.{Entry}
 use Rattle.view.specs.declared.Entry.the-variants.{Value, Outside}
@@ -43,6 +43,7 @@ has-place n columns row column within more h = omega (arith, more, le-div-iff-mu
 pub lacks-place : (n columns row column : ℕ) → column < columns → (n - column - 1) / columns < row → n ≤ row * columns + column
 lacks-place n columns row column within h = omega (arith, div-lt-iff-lt-mul {k = columns} {x = n - column - 1} {y = row} (omega (arith, within)) .0 h)
 
+-- a view of a whole table shows the values that the method looks at
 pub row-value : (xs : List Float) (rows columns row column : ℕ) → length xs ≡ rows * columns → row < rows → column < columns → entryOf xs rows columns row column ≡ Value (getD (getD (rowsOf rows columns xs) row []) column nan)
 row-value xs rows columns row column full r c =
-    sym (value-is xs rows columns row column r c (omega (arith, part-rows rows columns row r, full, c))) ∙ ap (λ (x : Float). Value x) (sym (row-entry xs rows columns row column r c))
+    sym (value-is xs rows columns row column r c (omega (arith, part-rows rows columns row r, full, c))) ∙ ap (λ (x : Float). Value x) (sym (row-entry xs rows columns row column nan r c))

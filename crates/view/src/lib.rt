@@ -1,7 +1,7 @@
 // A table looked at through a view of the lent values. The functions over a view are few and thin: each takes it apart and puts
 // the same question with the slice and the numbers, to a function whose contract says the same of them.
+use runs::FullRun;
 use stepdown::Beginning;
-use stepdown::FullRun;
 use stepdown::Run;
 use stepdown::StepAnswer;
 ghost use mathlib.Core.Path.{_≡_};
@@ -106,5 +106,67 @@ pub fn full_run_at(
         a,
         b,
         observed,
+    )
+}
+
+// A run before step 1, through a view of lent values.
+pub fn begin_at(
+    values: &[f64],
+    rows: usize,
+    columns: usize,
+    k: usize,
+    a: usize,
+    b: usize,
+    observed: usize,
+) -> Beginning
+    ensures { λ r. ⌜ r ≡ beginAnswer rows columns k a b observed ⌝ }
+{
+    begin(
+        View {
+            values,
+            rows,
+            columns,
+        },
+        k,
+        a,
+        b,
+        observed,
+    )
+}
+
+// The next step of a run, through a view of lent values.
+pub fn step_at(
+    values: &[f64],
+    rows: usize,
+    columns: usize,
+    run: Run,
+    work: &mut [f64],
+) -> StepAnswer
+    ensures { λ r. ⌜ r ≡ stepAnswer (now (values .entry)) run (length (now (work .entry))) ⌝ }
+    ensures { λ r. ⌜ now (work .exit) ≡ stepWork (now (values .entry)) run (now (work .entry)) ⌝ }
+{
+    step(
+        View {
+            values,
+            rows,
+            columns,
+        },
+        run,
+        work,
+    )
+}
+
+// The value at a place, through a view of lent values.
+pub fn look_at(values: &[f64], rows: usize, columns: usize, row: usize, column: usize) -> Entry
+    ensures { λ e. ⌜ e ≡ entryOf (now (values .entry)) rows columns row column ⌝ }
+{
+    look(
+        View {
+            values,
+            rows,
+            columns,
+        },
+        row,
+        column,
     )
 }

@@ -5,26 +5,26 @@ use native.Mathlib.Omega.{arith}
 use lib.Dec.{T}
 use lib.ListN.{length, take, length-set}
 use borrow.Author.Needs.{needs}
-use Rattle.stepdown.proofs.Filling.{filled}
-use Rattle.verdicts.specs.Verdicts.{smallSteps}
-use Rattle.host.proofs.Putting.{stepOf, step-small, put-start, put-turn, put-end}
+use Rattle.refusals.proofs.Buffers.{filled}
+use Rattle.host.specs.Internal.{smallSteps}
+use Rattle.host.proofs.StepBytes.{stepOf, step-small, put-start, put-turn, put-end}
 use Rattle.host.proofs.put_steps.Statement.{statement}
 use Rattle.host.proofs.put_steps.Tie as tie
 
 abbrev Inv-loop : tie.InvT-loop
-Inv-loop n out₀ judged i₀ out i = (i ≤ n) × (n ≤ 32) × (n ≤ length out₀) × T (smallSteps judged) × (length judged ≡ 32) × (length out ≡ length out₀) × (out ≡ filled stepOf (take n judged) i out₀)
+Inv-loop n out₀ decisions i₀ out i = (i ≤ n) × (n ≤ 32) × (n ≤ length out₀) × T (smallSteps decisions) × (length decisions ≡ 32) × (length out ≡ length out₀) × (out ≡ filled stepOf (take n decisions) i out₀)
 
 abbrev μ-loop : tie.MeasureT-loop
-μ-loop n out₀ judged i₀ out i = n - i
+μ-loop n out₀ decisions i₀ out i = n - i
 
 loop-holds : tie.Need-loop-holds Inv-loop μ-loop
 loop-holds c = let p = c .before .pre in (omega arith, p .0, p .1, p .2, search needs, refl, put-start (c .before .args .t1) (c .before .args .n) (c .before .args .out .now))
 
-mul-j : tie.Need-mul-j Inv-loop μ-loop
-mul-j c = search needs
+mul-d : tie.Need-mul-d Inv-loop μ-loop
+mul-d c = search needs
 
-array-copy-out-j : tie.Need-array-copy-out-j Inv-loop μ-loop
-array-copy-out-j c = search needs
+array-copy-out-d : tie.Need-array-copy-out-d Inv-loop μ-loop
+array-copy-out-d c = search needs
 
 rejecting-step-requires : tie.Need-rejecting-step-requires Inv-loop μ-loop
 rejecting-step-requires c κs = search needs
@@ -62,8 +62,8 @@ put-steps-spec =
     Inv-loop
     μ-loop
     loop-holds
-    mul-j
-    array-copy-out-j
+    mul-d
+    array-copy-out-d
     rejecting-step-requires
     cast-out
     slice-write-out

@@ -1,7 +1,7 @@
 -- `table_verdicts`: where there is no byte for each column only the refusal is looked for; otherwise the table is run, the steps are written and the rejected counted.
 use native.Mathlib.Omega.{arith}
-use Rattle.verdicts.proofs.Counted.{count-few}
-use Rattle.host.proofs.Tables.{number-fits, table-known, table-short, table-refused, table-done}
+use Rattle.host.proofs.VerdictBuffer.{count-fits}
+use Rattle.host.proofs.Tables.{table-fits, table-known, table-short, table-refused, table-done}
 use borrow.Author.Needs.{needs}
 use Rattle.host.proofs.table_verdicts.Statement.{statement}
 use Rattle.host.proofs.table_verdicts.Tie as tie
@@ -16,7 +16,7 @@ full-run-requires : tie.Need-full-run-requires
 full-run-requires c κs = search needs
 
 add-result : tie.Need-add-result
-add-result c = let r = c .before .before .before in record { fits = omega (arith, number-fits _ _ _ _ _ _ _ _ _ (r .full-run .ensures .0)) }
+add-result c = let r = c .before .before .before in record { fits = omega (arith, table-fits _ _ _ _ _ _ _ _ _ (r .full-run .ensures .0)) }
 
 same-length : tie.Need-same-length
 same-length c = search needs
@@ -31,7 +31,7 @@ full-run-requires-2 : tie.Need-full-run-requires-2
 full-run-requires-2 c κs = search needs
 
 add-result-2 : tie.Need-add-result-2
-add-result-2 c = let r = c .before .before .before in record { fits = omega (arith, number-fits _ _ _ _ _ _ _ _ _ (r .full-run2 .ensures .0)) }
+add-result-2 c = let r = c .before .before .before in record { fits = omega (arith, table-fits _ _ _ _ _ _ _ _ _ (r .full-run2 .ensures .0)) }
 
 same-length-2 : tie.Need-same-length-2
 same-length-2 c = search needs
@@ -54,10 +54,8 @@ rejected-count-requires c κs = search needs
 cast-result : tie.Need-cast-result
 cast-result c =
     let e = c .before .before .before .before .before .before in
-    let r = e .before .before .before in
-    let k = table-known _ _ _ _ _ _ _ _ _ (r .full-run2 .ensures .0) (e .if2 .left) in
-    let s = r .before .before .before .before .before .before in
-    record { fits = omega (arith, k .0, c .rejected-count .ensures, count-few (s .args .columns) (r .full-run2 .result .judged)) }
+    let k = table-known _ _ _ _ _ _ _ _ _ (e .before .before .before .full-run2 .ensures .0) (e .if2 .left) in
+    record { fits = count-fits _ _ _ (c .rejected-count .ensures) (omega (arith, k .0)) }
 
 same-length-3 : tie.Need-same-length-3
 same-length-3 c = search needs

@@ -1,29 +1,29 @@
 -- `trial_verdicts`: the file is run, the buffer is measured, the steps are written and the rejected counted.
 use native.Mathlib.Omega.{arith}
 use borrow.Author.Needs.{needs}
-use Rattle.verdicts.proofs.Counted.{count-few}
-use Rattle.host.proofs.Files.{refusal-fits, file-known, file-refused, file-short, file-done}
+use Rattle.host.proofs.VerdictBuffer.{count-fits}
+use Rattle.host.proofs.Files.{file-fits, file-known, file-refused, file-short, file-done}
 use Rattle.host.proofs.trial_verdicts.Statement.{statement}
 use Rattle.host.proofs.trial_verdicts.Tie as tie
 
-full-run-requires : tie.Need-full-run-requires
-full-run-requires c κs = search needs
+file-run-requires : tie.Need-file-run-requires
+file-run-requires c κs = search needs
 
 add-result : tie.Need-add-result
-add-result c = let r = c .before .before in record { fits = omega (arith, refusal-fits _ (r .before .before .before .args .verdicts .now) _ (r .full-run .ensures)) }
+add-result c = let r = c .before .before in record { fits = omega (arith, file-fits _ _ (r .file-run .ensures)) }
 
 returns : tie.Need-returns
-returns c = file-refused _ _ _ (c .before .before .full-run .ensures) (c .if1 .taken)
+returns c = file-refused _ _ (c .before .before .file-run .ensures) _ (c .if1 .taken)
 
 returns-2 : tie.Need-returns-2
-returns-2 c = file-short _ _ _ (c .before .before .before .before .full-run .ensures) (c .before .before .if1 .left) (c .if2 .taken)
+returns-2 c = file-short _ _ (c .before .before .before .before .file-run .ensures) _ (c .before .before .if1 .left) (c .if2 .taken)
 
 put-steps-requires : tie.Need-put-steps-requires
 put-steps-requires c κs =
     let e = c .before .before in
     let r = e .before .before .before .before in
-    let k = file-known _ (r .before .before .before .args .verdicts .now) _ (r .full-run .ensures) (e .before .before .if1 .left) in
-    (k .0, e .if2 .left, k .1)
+    let k = file-known _ _ (r .file-run .ensures) (e .before .before .if1 .left) in
+    (omega (arith, k .0), e .if2 .left, k .1)
 
 rejected-count-requires : tie.Need-rejected-count-requires
 rejected-count-requires c κs = search needs
@@ -31,9 +31,8 @@ rejected-count-requires c κs = search needs
 cast-result : tie.Need-cast-result
 cast-result c =
     let e = c .before .before .before .before .before .before in
-    let r = e .before .before .before .before in
-    let k = file-known _ (r .before .before .before .args .verdicts .now) _ (r .full-run .ensures) (e .before .before .if1 .left) in
-    record { fits = omega (arith, k .0, c .rejected-count .ensures, count-few (r .full-run .result .trial .offers) (r .full-run .result .run .judged)) }
+    let k = file-known _ _ (e .before .before .before .before .file-run .ensures) (e .before .before .if1 .left) in
+    record { fits = count-fits _ _ _ (c .rejected-count .ensures) (omega (arith, k .0)) }
 
 same-length : tie.Need-same-length
 same-length c = search needs
@@ -43,13 +42,13 @@ returns-3 c =
     let p = c .before .before .before in
     let e = p .before .before .before in
     let r = e .before .before .before .before in
-    file-done _ _ _ (r .full-run .ensures) (e .before .before .if1 .left) (e .if2 .left) _ (p .put-steps .ensures) _ (c .rejected-count .ensures)
+    file-done _ _ (r .file-run .ensures) _ (e .before .before .if1 .left) (e .if2 .left) _ (p .put-steps .ensures) _ (c .rejected-count .ensures)
 
 pub trial-verdicts-spec : {M : Type 1} → statement M
 trial-verdicts-spec =
     tie.close
     (tie.spec
-    full-run-requires
+    file-run-requires
     add-result
     returns
     returns-2

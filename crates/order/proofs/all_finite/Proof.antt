@@ -1,6 +1,6 @@
 -- `order::all_finite` meets its contract. The invariant: all are finite exactly where all from `i` on are.
 use borrow.Author.Needs.{needs}
-use mathlib.Core.Path.{_≡_, refl, sym, _∙_}
+use mathlib.Core.Path.{_≡_, sym, _∙_}
 use Prim.Native.Nat.{_≤_, _-_}
 use lib.ListN.{length, drop}
 use lib.Ieee.{nan}

@@ -1,7 +1,7 @@
 -- `order::is_finite` meets its contract: a value strictly between the infinities is finite.
 use borrow.Author.Needs.{needs}
 use mathlib.Core.Path.{_≡_, refl, sym}
-use mathlib.Core.Bool.{Bool, true, false}
+use mathlib.Core.Bool.{true, false}
 use lib.Dec.{T}
 use lib.Ieee.{Float, nan, inf, fin, lt, fits, nanBits, ofBits, binary64}
 use Rattle.order.specs.Order.{finite}

@@ -1,24 +1,22 @@
 -- `order::plus_zero` meets its contract: only the zeros equal zero.
-use borrow.Author.Needs.{needs}
 use Prim.Native.Nat.{ℕ, zero, suc, _*_, _<_}
 use native.Mathlib.Omega.{arith}
 use native.Mathlib.Nat.{zero-mul, mul-pos}
 use mathlib.Core.Path.{_≡_, refl, sym, ap, _∙_}
-use mathlib.Core.Bool.{Bool, true, false, _||_, Bool·beq}
-use lib.Dec.{T, eqb, eqb→eq}
-use lib.IntN.{pos}
-use lib.Ieee.{Float, nan, inf, fin, eq, ofBits, binary64, up, down}
+use mathlib.Core.Bool.{true, false, _||_, Bool·beq}
+use lib.Dec.{eqb, eqb→eq}
+use lib.Ieee.{Float, nan, inf, fin, eq, ofBits, up, down}
 use lib.Ieee.Fits.{up-pos}
 use borrow.Author.Tests.{eq-eqb}
-use Rattle.order.specs.Order.{plusZero, unsigned}
+use Rattle.order.specs.Order.{plusZero, withPlusZero}
 use Rattle.order.proofs.Booleans.{never, true-T, and-left, and-both, or-right}
 use Rattle.order.proofs.plus_zero.Statement.{statement}
 use Rattle.order.proofs.plus_zero.Tie as tie
 use Rattle.order.proofs.plus_zero.Reads as reads
 use Rattle.order.proofs.plus_zero.Lts as lts
 
-is-zero : (x : Float) → eq x plusZero ≡ true → plusZero ≡ unsigned x
-unfolding eq unsigned
+is-zero : (x : Float) → eq x plusZero ≡ true → plusZero ≡ withPlusZero x
+unfolding eq withPlusZero
 is-zero nan h = absurd (never false refl (true-T false h))
 is-zero (inf s) h = absurd (never false refl (true-T false h))
 is-zero (fin s zero e) h = refl
@@ -29,8 +27,8 @@ is-zero (fin s (suc m) e) h =
     let p : 0 < a = mul-pos (mul-pos (omega arith) (up-pos e)) (omega arith) in
     absurd (omega (arith, zero-mul (down e)))
 
-no-zero : (x : Float) → eq x plusZero ≡ false → x ≡ unsigned x
-unfolding eq unsigned
+no-zero : (x : Float) → eq x plusZero ≡ false → x ≡ withPlusZero x
+unfolding eq withPlusZero
 no-zero nan h = refl
 no-zero (inf s) h = refl
 no-zero (fin s zero e) h =

@@ -1,17 +1,10 @@
 -- `compose`: the refusal's line, or head, steps, offers and end, one after the other.
-use Rattle.rendering.proofs.Writing.{then, wrote-as}
-use Rattle.rendering.proofs.Rendered.{text-refused, text-report}
+use Rattle.rendering.proofs.TextWrites.{then, wrote-as}
+use Rattle.rendering.proofs.FileTexts.{text-refused, text-report}
 use native.Mathlib.Omega.{arith}
 use borrow.Author.Needs.{needs}
 use Rattle.rendering.proofs.compose.Statement.{statement}
 use Rattle.rendering.proofs.compose.Tie as tie
-use Rattle.rendering.proofs.compose.Reads as reads
-use Rattle.rendering.proofs.compose.Lts as lts
-use Rattle.rendering.proofs.lines.head.Reads as head-reads
-use Rattle.rendering.proofs.lines.numbered.Reads as numbered-reads
-use Rattle.rendering.proofs.lines.offers.Reads as offers-reads
-use Rattle.rendering.proofs.lines.steps.Reads as steps-reads
-use Rattle.verdicts.proofs.rejected_count.Reads as rejected-count-reads
 
 slice-aggregate-numbered : tie.Need-slice-aggregate-numbered
 slice-aggregate-numbered c = search needs

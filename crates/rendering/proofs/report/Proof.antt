@@ -1,33 +1,28 @@
 -- `report`: the text is composed in a space of its own, and written where it fits.
-use Rattle.rendering.proofs.Writing.{wrote-all}
-use Rattle.rendering.proofs.Printing.{printable-run}
+use Rattle.refusals.specs.Buffers.{written}
+use Rattle.rendering.proofs.TextWrites.{wrote-all}
+use Rattle.rendering.proofs.PrintableFiles.{printable-file}
 use Rattle.rendering.proofs.Rendered.{text-length, text-taken, render-short, render-done}
-use Rattle.stepdown.specs.Buffers.{written}
 use lib.Seq.{length-take-le}
 use mathlib.Core.Path.{sym, ap, _∙_}
 use native.Mathlib.Omega.{arith}
 use borrow.Author.Needs.{needs}
 use Rattle.rendering.proofs.report.Statement.{statement}
 use Rattle.rendering.proofs.report.Tie as tie
-use Rattle.rendering.proofs.report.Reads as reads
-use Rattle.rendering.proofs.report.Lts as lts
-use Rattle.filerun.proofs.full_run.Reads as full-run-reads
-use Rattle.rendering.proofs.compose.Reads as compose-reads
-use Rattle.rendering.proofs.text.put_all.Reads as put-all-reads
 
-full-run-requires : tie.Need-full-run-requires
-full-run-requires c κs = search needs
+file-run-requires : tie.Need-file-run-requires
+file-run-requires c κs = search needs
 
 slice-aggregate-compose : tie.Need-slice-aggregate-compose
 slice-aggregate-compose c = search needs
 
 compose-requires : tie.Need-compose-requires
-compose-requires c κs = (omega arith, printable-run _ _ (c .before .full-run .ensures))
+compose-requires c κs = (omega arith, printable-file _ _ (c .before .file-run .ensures))
 
 returns : tie.Need-returns
 returns c =
     let p = c .before .before in
-    let f = p .before .before .full-run in
+    let f = p .before .before .file-run in
     let a = c .before .before .before .before .before .before .before .args in
     render-short (a .file .now) (a .out .now) _ (text-length _ _ _ _ _ (f .ensures) (p .compose .ensures .0)) (c .if1 .taken)
 
@@ -46,7 +41,7 @@ same-length c = search needs
 returns-2 : tie.Need-returns-2
 returns-2 c =
     let p = c .before .before .before .before .before .before .before in
-    let f = p .before .before .full-run in
+    let f = p .before .before .file-run in
     let a = c .before .before .before .before .before .before .before .before .before .before .before .before .args in
     let w = p .compose .ensures .0 in
     render-done (a .file .now) (a .out .now) _ (text-length _ _ _ _ _ (f .ensures) w) _ (c .before .before .before .before .before .if1 .left)
@@ -56,7 +51,7 @@ pub report-spec : {M : Type 1} → statement M
 report-spec =
     tie.close
     (tie.spec
-    full-run-requires
+    file-run-requires
     slice-aggregate-compose
     compose-requires
     returns

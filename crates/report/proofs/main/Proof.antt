@@ -1,21 +1,16 @@
 -- `main`: the rendered text is within its buffer. That it is the whole report is `rendered-whole` (crate rendering, proofs/Rendered.antt).
-use Rattle.rendering.proofs.Rendered.{rendered-within}
+use Rattle.rendering.specs.Renderings.{renderingOf}
 use Rattle.rendering.specs.declared.Rendering.{Rendering}
+use Rattle.rendering.proofs.Rendered.{rendered-within}
 use lib.Seq.{length-take-le}
 use mathlib.Core.Path.{_≡_, sym, ap}
 use mathlib.Core.List.{List}
 use Prim.Native.Nat.{ℕ, _≤_}
 use lib.ListN.{length}
-use Rattle.rendering.specs.Renderings.{renderingOf}
 use native.Mathlib.Omega.{arith}
 use borrow.Author.Needs.{needs}
 use Rattle.report.proofs.main.Statement.{statement}
 use Rattle.report.proofs.main.Tie as tie
-use Rattle.report.proofs.main.Reads as reads
-use Rattle.report.proofs.main.Lts as lts
-use Rattle.io.proofs.read_full.Reads as read-full-reads
-use Rattle.io.proofs.write_all.Reads as write-all-reads
-use Rattle.rendering.proofs.report.Reads as report-reads
 
 slice-aggregate-read-full : tie.Need-slice-aggregate-read-full
 slice-aggregate-read-full c = search needs

@@ -1,61 +1,60 @@
--- `full_run` meets its contract: its checks, all steps, the work buffer cleared, verdicts and counts.
-use Rattle.stepdown.proofs.Finishing.{full-refused, work-same, full-is, work-zeroed, traced-run}
-use Rattle.stepdown.proofs.Calls.{table-known, table-ready, table-seen, table-room}
-use native.Mathlib.Omega.{arith}
-use mathlib.Core.Path.{_≡_, refl, sym, ap, _∙_}
+-- `full_run` meets its contract: its checks, and the engine's full run at e over all columns.
+use Rattle.stepdown.proofs.Accepted.{table-accepted, accepted-checked, table-room, table-level}
+use Rattle.stepdown.proofs.Calls.{rows-pass, full-refused, full-work-kept, full-is, full-on, full-work-cleared, made-rare, made-full}
+use mathlib.Core.Path.{sym, _∙_}
 use borrow.Author.Needs.{needs}
 use Rattle.stepdown.proofs.full_run.Statement.{statement}
 use Rattle.stepdown.proofs.full_run.Tie as tie
 use Rattle.stepdown.proofs.full_run.Reads as reads
 use Rattle.stepdown.proofs.full_run.Lts as lts
-use Rattle.stepdown.proofs.advance.clear.Reads as clear-reads
+use Rattle.critical.proofs.full_mask.Reads as full-mask-reads
+use Rattle.engine.proofs.full_run.Reads as full-run-reads
+use Rattle.runs.proofs.refused.Reads as refused-reads
+use Rattle.stepdown.proofs.allowance.Reads as allowance-reads
 use Rattle.stepdown.proofs.refusal.of_table.Reads as of-table-reads
-use Rattle.stepdown.proofs.tracing.all_steps.Reads as all-steps-reads
-use Rattle.stepdown.proofs.tracing.blank.Reads as blank-reads
-use Rattle.stepdown.proofs.tracing.finish.Reads as finish-reads
 
 of-table-requires : tie.Need-of-table-requires
 of-table-requires c κs = search needs
 
-blank-requires : tie.Need-blank-requires
-blank-requires c κs = search needs
+refused-requires : tie.Need-refused-requires
+refused-requires c κs = search needs
 
 returns : tie.Need-returns
-returns c = let o = c .before .before in let w = o .before .before .before .args .work .now in (full-refused _ _ _ _ _ _ _ w _ (o .of-table .ensures) _ (c .before .if1 .taken) (c .blank .ensures), work-same _ _ _ _ _ _ _ w _ (o .of-table .ensures) (c .before .if1 .taken))
+returns c = let o = c .before .before in let w = o .before .before .before .args .work .now in (full-refused _ _ _ _ _ _ _ w _ (o .of-table .ensures) _ (c .before .if1 .taken) (c .refused .ensures), full-work-kept _ _ _ _ _ _ _ w _ (o .of-table .ensures) (c .before .if1 .taken))
 
-all-steps-requires : tie.Need-all-steps-requires
-all-steps-requires c κs = let z = sym (c .before .before .of-table .ensures) ∙ c .before .if1 .left in (table-known _ _ _ _ _ _ _ _ z, table-room _ _ _ _ _ _ _ _ z, refl, refl)
+allowance-requires : tie.Need-allowance-requires
+allowance-requires c κs = let z = sym (c .before .of-table .ensures) ∙ c .if1 .left in (rows-pass _ _ _ (table-accepted _ _ _ _ _ _ _ _ z .shaped), table-level _ _ _ _ _ _ _ _ z)
 
-clear-requires : tie.Need-clear-requires
-clear-requires c κs = let a = c .before .before .before in let z = sym (a .before .before .before .of-table .ensures) ∙ a .before .before .if1 .left in let r = table-room _ _ _ _ _ _ _ _ z in omega (arith, r, a .all-steps .kept .1 .1 .0)
+full-mask-requires : tie.Need-full-mask-requires
+full-mask-requires c κs = let z = sym (c .before .before .of-table .ensures) ∙ c .before .if1 .left in table-accepted _ _ _ _ _ _ _ _ z .shaped .columns-most
 
-finish-requires : tie.Need-finish-requires
-finish-requires c κs = let a = c .before .before .before .before .before .before in let z = sym (a .before .before .before .of-table .ensures) ∙ a .before .before .if1 .left in (table-ready _ _ _ _ _ _ _ _ z, table-seen _ _ _ _ _ _ _ _ z, traced-run _ _ _ _ (a .all-steps .ensures .0))
+full-run-requires : tie.Need-full-run-requires
+full-run-requires c κs =
+    let o = c .before .before .before .before in
+    let z = sym (o .of-table .ensures) ∙ c .before .before .before .if1 .left in
+    let acc = table-accepted _ _ _ _ _ _ _ _ z in
+    (accepted-checked _ _ _ _ _ _ _ acc, made-rare _ _ _ _ _ _ _ acc _ (c .before .before .allowance .ensures), acc .seen, made-full _ _ (c .before .full-mask .ensures), table-room _ _ _ _ _ _ _ _ z)
 
 same-length : tie.Need-same-length
 same-length c = search needs
 
 returns-2 : tie.Need-returns-2
 returns-2 c =
-    let l = c .before .before .before in
-    let a = l .before .before .before .before in
-    let o = a .before .before .before in
-    let i = a .before .before .if1 .left in
+    let f = c .before .before in
+    let o = f .before .before .before .before .before in
+    let z = f .before .before .before .before .if1 .left in
     let w = o .before .before .before .args .work .now in
-    let z = sym (o .of-table .ensures) ∙ i in (
-      full-is _ _ _ _ _ _ _ w _ (o .of-table .ensures) _ _ i (table-seen _ _ _ _ _ _ _ _ z) (a .all-steps .ensures .0) (c .finish .ensures),
-      work-zeroed _ _ _ _ _ _ _ w _ (o .of-table .ensures) _ _ i (a .all-steps .ensures .1) (l .clear .ensures),
-    )
+    (full-on _ _ _ _ _ _ _ w _ (o .of-table .ensures) _ z (full-is _ _ _ _ _ _ _ _ _ _ (f .before .before .before .allowance .ensures) (f .before .before .full-mask .ensures) (f .full-run .ensures .0)), full-work-cleared _ _ _ _ _ _ _ w _ (o .of-table .ensures) _ z (f .full-run .ensures .1))
 
 pub full-run-spec : {M : Type 1} → statement M
 full-run-spec =
     tie.close
     (tie.spec
     of-table-requires
-    blank-requires
+    refused-requires
     returns
-    all-steps-requires
-    clear-requires
-    finish-requires
+    allowance-requires
+    full-mask-requires
+    full-run-requires
     same-length
     returns-2)

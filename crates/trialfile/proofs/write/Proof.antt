@@ -1,4 +1,5 @@
 -- `write`: checked, measured, then written.
+use native.Mathlib.Omega.{arith}
 use Rattle.trialfile.proofs.Writes.{writing-refused, writing-short, writing-done}
 use borrow.Author.Needs.{needs}
 use Rattle.trialfile.proofs.write.Statement.{statement}
@@ -18,7 +19,9 @@ mul-if2 c = search needs
 
 returns-2 : tie.Need-returns-2
 returns-2 c =
-    writing-short _ _ _ (c .before .before .before .check .ensures) _ (c .before .before .if1 .left) (c .before .word-count .ensures .0) (c .if2 .taken)
+    let a = c .before .before .before .before .before .args in
+    let n = c .before .word-count in
+    writing-short (a .t) (a .out .now) _ (c .before .before .before .check .ensures) (n .result) (c .before .before .if1 .left) (n .ensures .0) (omega arith)
 
 write-words-requires : tie.Need-write-words-requires
 write-words-requires c κs = search needs

@@ -4,7 +4,7 @@ use Rattle.verdicts.proofs.Counted.{count-most, count-on, count-end}
 use lib.ListN.{length}
 use Prim.Native.Nat.{_+_, _≤_, _-_}
 use native.Mathlib.Omega.{arith}
-use mathlib.Core.Path.{_≡_, refl, sym, ap, _∙_}
+use mathlib.Core.Path.{_≡_, refl, ap, _∙_}
 use borrow.Author.Needs.{needs}
 use Rattle.verdicts.proofs.rejected_count.Statement.{statement}
 use Rattle.verdicts.proofs.rejected_count.Tie as tie
@@ -13,10 +13,10 @@ use Rattle.verdicts.proofs.rejected_count.Lts as lts
 use Rattle.verdicts.proofs.tally.Reads as tally-reads
 
 abbrev Inv-loop : tie.InvT-loop
-Inv-loop n judged total₀ i₀ total i = (i ≤ n) × (i ≤ 32) × (length judged ≡ 32) × (total ≡ rejectedCount i judged)
+Inv-loop n decisions total₀ i₀ total i = (i ≤ n) × (i ≤ 32) × (length decisions ≡ 32) × (total ≡ rejectedCount i decisions)
 
 abbrev μ-loop : tie.MeasureT-loop
-μ-loop n judged total₀ i₀ total i = n - i
+μ-loop n decisions total₀ i₀ total i = n - i
 
 loop-holds : tie.Need-loop-holds Inv-loop μ-loop
 unfolding rejectedCount
@@ -25,11 +25,11 @@ loop-holds c = (omega arith, omega arith, search needs, refl)
 returns : tie.Need-returns Inv-loop μ-loop
 returns c = let l = c .before .before .loop .inv in l .3 ∙ count-end _ _ _ (omega (arith, l .2, c .if1 .taken)) (l .0)
 
-mul-j : tie.Need-mul-j Inv-loop μ-loop
-mul-j c = search needs
+mul-d : tie.Need-mul-d Inv-loop μ-loop
+mul-d c = search needs
 
-array-copy-out-j : tie.Need-array-copy-out-j Inv-loop μ-loop
-array-copy-out-j c = search needs
+array-copy-out-d : tie.Need-array-copy-out-d Inv-loop μ-loop
+array-copy-out-d c = search needs
 
 tally-requires : tie.Need-tally-requires Inv-loop μ-loop
 tally-requires c κs = search needs
@@ -57,8 +57,8 @@ rejected-count-spec =
     μ-loop
     loop-holds
     returns
-    mul-j
-    array-copy-out-j
+    mul-d
+    array-copy-out-d
     tally-requires
     add-total
     add-i

@@ -10,9 +10,9 @@ use mir.Val.{WT}
 use denote.Ref.{RefT}
 use denote.Slice.{slice-vals, mut-slice-tells}
 use denote.Struct.Laws as LL
-use Rattle.stepdown.specs.declared.FullRun.{FullRun}
-use Rattle.stepdown.proofs.FullRun as F
-use Rattle.stepdown.proofs.FullRun.Laws as F′
+use Rattle.runs.specs.declared.FullRun.{FullRun}
+use Rattle.runs.proofs.FullRun as F
+use Rattle.runs.proofs.FullRun.Laws as F′
 use Rattle.stepdown.proofs.full_run as under
 use Rattle.stepdown.proofs.full_run.Symbol as under-def
 use Rattle.stepdown.proofs.full_run.Symbol.{name as #stepdown·full-run}

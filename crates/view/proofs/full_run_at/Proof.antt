@@ -10,9 +10,9 @@ use mir.Val.{WT}
 use denote.Ref.{RefT}
 use denote.Slice.{slice-vals, shr-slice-tells, mut-slice-tells}
 use denote.Struct.Laws as LL
-use Rattle.stepdown.specs.declared.FullRun.{FullRun}
-use Rattle.stepdown.proofs.FullRun as F
-use Rattle.stepdown.proofs.FullRun.Laws as F′
+use Rattle.runs.specs.declared.FullRun.{FullRun}
+use Rattle.runs.proofs.FullRun as F
+use Rattle.runs.proofs.FullRun.Laws as F′
 use Rattle.view.specs.declared.View.{View}
 use Rattle.view.proofs.full_run as under
 use Rattle.view.proofs.full_run.Symbol as under-def

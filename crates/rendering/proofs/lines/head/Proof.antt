@@ -1,23 +1,16 @@
-use Rattle.rendering.proofs.Composed.{head-is}
-use Rattle.rendering.proofs.Writing.{then, wrote-as}
-use mathlib.Core.Path.{_≡_, refl, sym, ap, _∙_}
+-- `head`: the word and the five numbers, one after the other.
+use Rattle.rendering.proofs.ReportLines.{head-is}
+use Rattle.rendering.proofs.TextWrites.{then, wrote-as}
 use native.Mathlib.Omega.{arith}
 use borrow.Author.Needs.{needs}
 use Rattle.rendering.proofs.lines.head.Statement.{statement}
 use Rattle.rendering.proofs.lines.head.Tie as tie
-use Rattle.rendering.proofs.lines.head.Reads as reads
-use Rattle.rendering.proofs.lines.head.Lts as lts
-use Rattle.rendering.proofs.lines.allowed.Reads as allowed-reads
-use Rattle.rendering.proofs.lines.rows.Reads as rows-reads
-use Rattle.rendering.proofs.text.put.Reads as put-reads
-use Rattle.rendering.proofs.text.put_all.Reads as put-all-reads
-use Rattle.rendering.proofs.text.put_field.Reads as put-field-reads
 
 rows-requires : tie.Need-rows-requires
 rows-requires c κs = search needs
 
-allowed-requires : tie.Need-allowed-requires
-allowed-requires c κs = search needs
+allowance-requires : tie.Need-allowance-requires
+allowance-requires c κs = search needs
 
 slice-aggregate-put-all : tie.Need-slice-aggregate-put-all
 slice-aggregate-put-all c = search needs
@@ -56,14 +49,14 @@ returns c =
     let m = c .before .before .before .before .before .before .put-field5 .ensures in
     let n = c .before .before .put .ensures in
     let s = c .before .before .before .before .before .before .before .before .before .before .before .before .before .before .before .before .before .before .before .before .before .before .before .before .before .before .before .before .before in
-    (wrote-as _ (head-is _ _ _ (s .before .rows .ensures .0) (s .allowed .ensures)) (then w (then (p .0) (then (o .0) (then (k .0) (then (e .0) (then (m .0) n)))))), omega (arith, w .ends, p .1, o .1, k .1, e .1, m .1, n .ends))
+    (wrote-as _ (head-is _ _ _ (s .before .rows .ensures .0) (s .allowance .ensures)) (then w (then (p .0) (then (o .0) (then (k .0) (then (e .0) (then (m .0) n)))))), omega (arith, w .ends, p .1, o .1, k .1, e .1, m .1, n .ends))
 
 pub head-spec : {M : Type 1} → statement M
 head-spec =
     tie.close
     (tie.spec
     rows-requires
-    allowed-requires
+    allowance-requires
     slice-aggregate-put-all
     put-all-requires
     put-field-requires

@@ -1,14 +1,9 @@
-use Rattle.rendering.proofs.Writing.{then, wrote-as}
-use mathlib.Core.Path.{_≡_, refl, sym, ap, _∙_}
+-- `numbered`: the word, the number and the line end, one after the other.
+use Rattle.rendering.proofs.TextWrites.{then}
 use native.Mathlib.Omega.{arith}
 use borrow.Author.Needs.{needs}
 use Rattle.rendering.proofs.lines.numbered.Statement.{statement}
 use Rattle.rendering.proofs.lines.numbered.Tie as tie
-use Rattle.rendering.proofs.lines.numbered.Reads as reads
-use Rattle.rendering.proofs.lines.numbered.Lts as lts
-use Rattle.rendering.proofs.text.put.Reads as put-reads
-use Rattle.rendering.proofs.text.put_all.Reads as put-all-reads
-use Rattle.rendering.proofs.text.put_field.Reads as put-field-reads
 
 put-all-requires : tie.Need-put-all-requires
 put-all-requires c κs = search needs

@@ -1,18 +1,15 @@
-use Rattle.rendering.proofs.Writing.{wrote-none}
-use Rattle.rendering.proofs.Composed.{lines-more, lines-all, ends}
-use Rattle.rendering.specs.Reports.{linesTo, stepLineAt, offerLineAt}
-use Rattle.rendering.specs.Internal.{Wrote, Printable, FewDigits}
+-- `offers`: the invariant is the text of the lines so far, each of at most 59 bytes.
+use Rattle.rendering.specs.Reports.{linesTo, offerLineAt}
+use Rattle.rendering.specs.Internal.{Wrote, FewDigits}
+use Rattle.rendering.proofs.TextWrites.{wrote-none, then, wrote-as}
+use Rattle.rendering.proofs.ReportLines.{lines-more, lines-all, ends}
 use lib.ListN.{length}
 use Prim.Native.Nat.{_+_, _*_, _-_, _≤_}
 use borrow.Author.Needs.{needs}
-use Rattle.rendering.proofs.Writing.{then, wrote-as}
-use mathlib.Core.Path.{_≡_, refl, sym, ap, _∙_}
+use mathlib.Core.Path.{_≡_, refl}
 use native.Mathlib.Omega.{arith}
 use Rattle.rendering.proofs.lines.offers.Statement.{statement}
 use Rattle.rendering.proofs.lines.offers.Tie as tie
-use Rattle.rendering.proofs.lines.offers.Reads as reads
-use Rattle.rendering.proofs.lines.offers.Lts as lts
-use Rattle.rendering.proofs.lines.offer.Reads as offer-reads
 
 abbrev Inv-loop : tie.InvT-loop
 Inv-loop out₀ at t run n next₀ i₀ out next i =
@@ -25,11 +22,11 @@ loop-holds : tie.Need-loop-holds Inv-loop μ-loop
 unfolding linesTo
 loop-holds c = let q = c .before .pre in (omega arith, refl, q .2, q .0, q .1, refl, q .3, omega arith, wrote-none _ _)
 
-mul-j : tie.Need-mul-j Inv-loop μ-loop
-mul-j c = search needs
+mul-d : tie.Need-mul-d Inv-loop μ-loop
+mul-d c = search needs
 
-element-copy-out-j : tie.Need-element-copy-out-j Inv-loop μ-loop
-element-copy-out-j c = search needs
+element-copy-out-d : tie.Need-element-copy-out-d Inv-loop μ-loop
+element-copy-out-d c = search needs
 
 mul-offer : tie.Need-mul-offer Inv-loop μ-loop
 mul-offer c = search needs
@@ -77,8 +74,8 @@ offers-spec =
     Inv-loop
     μ-loop
     loop-holds
-    mul-j
-    element-copy-out-j
+    mul-d
+    element-copy-out-d
     mul-offer
     element-copy-out-offer
     cast-offer

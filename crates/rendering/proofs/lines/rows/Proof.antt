@@ -1,13 +1,10 @@
+-- `rows`: 1 shifted by the pairs is 2 to that power.
 use Rattle.trial.proofs.Places.{rows-shift}
 use lib.Pow.{pow-mono}
-use Rattle.rendering.proofs.Writing.{then, wrote-as}
-use mathlib.Core.Path.{_≡_, refl, sym, ap, _∙_}
 use native.Mathlib.Omega.{arith}
 use borrow.Author.Needs.{needs}
 use Rattle.rendering.proofs.lines.rows.Statement.{statement}
 use Rattle.rendering.proofs.lines.rows.Tie as tie
-use Rattle.rendering.proofs.lines.rows.Reads as reads
-use Rattle.rendering.proofs.lines.rows.Lts as lts
 
 shl-result : tie.Need-shl-result
 shl-result c = search needs

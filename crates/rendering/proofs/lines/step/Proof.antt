@@ -1,15 +1,9 @@
-use Rattle.rendering.proofs.Writing.{then, wrote-as}
-use mathlib.Core.Path.{_≡_, refl, sym, ap, _∙_}
+-- `step`: the parts of the line, one after the other.
+use Rattle.rendering.proofs.TextWrites.{then}
 use native.Mathlib.Omega.{arith}
 use borrow.Author.Needs.{needs}
 use Rattle.rendering.proofs.lines.step.Statement.{statement}
 use Rattle.rendering.proofs.lines.step.Tie as tie
-use Rattle.rendering.proofs.lines.step.Reads as reads
-use Rattle.rendering.proofs.lines.step.Lts as lts
-use Rattle.rendering.proofs.text.put.Reads as put-reads
-use Rattle.rendering.proofs.text.put_all.Reads as put-all-reads
-use Rattle.rendering.proofs.text.put_cents.Reads as put-cents-reads
-use Rattle.rendering.proofs.text.put_field.Reads as put-field-reads
 
 slice-aggregate-put-all : tie.Need-slice-aggregate-put-all
 slice-aggregate-put-all c = search needs

@@ -1,18 +1,15 @@
-use Rattle.rendering.proofs.Writing.{wrote-none}
-use Rattle.rendering.proofs.Composed.{lines-more, lines-all, ends}
-use Rattle.rendering.specs.Reports.{linesTo, stepLineAt, offerLineAt}
-use Rattle.rendering.specs.Internal.{Wrote, Printable, FewDigits}
+-- `steps`: the invariant is the text of the lines so far, each of at most 48 bytes.
+use Rattle.rendering.specs.Reports.{linesTo, stepLineAt}
+use Rattle.rendering.specs.Internal.{Wrote, Printable}
+use Rattle.rendering.proofs.TextWrites.{wrote-none, then, wrote-as}
+use Rattle.rendering.proofs.ReportLines.{lines-more, lines-all, ends}
 use lib.ListN.{length}
 use Prim.Native.Nat.{_+_, _*_, _-_, _≤_}
 use borrow.Author.Needs.{needs}
-use Rattle.rendering.proofs.Writing.{then, wrote-as}
-use mathlib.Core.Path.{_≡_, refl, sym, ap, _∙_}
+use mathlib.Core.Path.{_≡_, refl}
 use native.Mathlib.Omega.{arith}
 use Rattle.rendering.proofs.lines.steps.Statement.{statement}
 use Rattle.rendering.proofs.lines.steps.Tie as tie
-use Rattle.rendering.proofs.lines.steps.Reads as reads
-use Rattle.rendering.proofs.lines.steps.Lts as lts
-use Rattle.rendering.proofs.lines.step.Reads as step-reads
 
 abbrev Inv-loop : tie.InvT-loop
 Inv-loop out₀ at run n next₀ i₀ out next i =

@@ -2,16 +2,16 @@
 use borrow.Author.Needs.{needs}
 use Prim.Native.Nat.{ℕ, _<_}
 use native.Mathlib.Omega.{arith}
-use mathlib.Core.Path.{_≡_}
 use borrow.Fn.Kinds.{In}
 use borrow.Fn.PlainCycle.{Measures, is, falls, and}
-use Rattle.rendering.proofs.Writing.{then, wrote-none, wrote-as}
-use Rattle.rendering.proofs.Numbers.{printed-none, printed-more, some, less, remainder}
+use Rattle.refusals.proofs.Limits.{positive}
+use Rattle.rendering.proofs.TextWrites.{then, wrote-none, wrote-as}
+use Rattle.rendering.proofs.Numbers.{printed-none, printed-more, less, remainder}
+use Rattle.rendering.proofs.text.+put_printed.{statement}
 use Rattle.rendering.proofs.text.put_printed.Reads as put-printed
 use Rattle.rendering.proofs.text.put_printed.Kinds as put-printed-kinds
 use Rattle.rendering.proofs.text.+put_printed.Lts-put_printed as put-printed-lts
 use Rattle.rendering.proofs.text.put_digit.Reads as put-digit-reads
-use Rattle.rendering.proofs.text.+put_printed.{statement}
 use Rattle.rendering.proofs.text.+put_printed.Tie.{close}
 
 abbrev μ-put-printed : Measures 1 put-printed-kinds.ps ℕ
@@ -42,7 +42,7 @@ put-printed-put-digit-requires : (t : ℕ) → put-printed-lts.Need-put-digit-re
 put-printed-put-digit-requires t c κs =
     let p = c .before .before .before in
     let s = p .before .before .before .before in
-    (omega (arith, p .put-printed .ensures .1, p .put-printed .kept .0, s .pre .1, some _ (p .before .before .if1 .left)), remainder _)
+    (omega (arith, p .put-printed .ensures .1, p .put-printed .kept .0, s .pre .1, positive _ (p .before .before .if1 .left)), remainder _)
 
 put-printed-same-length : (t : ℕ) → put-printed-lts.Need-same-length (calls t) (put-printed-at t) put-printed.Post
 put-printed-same-length t c = search needs
@@ -52,7 +52,7 @@ put-printed-returns-2 t c =
     let d = c .before .before .put-digit .ensures in
     let p = c .before .before .before .before .before .before in
     let f = p .before .before .if1 .left in
-    (wrote-as _ (printed-more _ _ f) (then (p .put-printed .ensures .0) d), omega (arith, d .ends, p .put-printed .ensures .1, some _ f))
+    (wrote-as _ (printed-more _ _ f) (then (p .put-printed .ensures .0) d), omega (arith, d .ends, p .put-printed .ensures .1, positive _ f))
 
 pub +put-printed-spec : {M : Type 1} → statement M
 +put-printed-spec = close μ-put-printed λ t. put-printed-lts.spec (calls t) (put-printed-at t) put-printed.Post

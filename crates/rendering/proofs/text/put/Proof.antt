@@ -1,9 +1,8 @@
-use Rattle.rendering.proofs.Writing.{put-one}
+-- `put`: one byte is stored.
+use Rattle.rendering.proofs.TextWrites.{put-one}
 use borrow.Author.Needs.{needs}
 use Rattle.rendering.proofs.text.put.Statement.{statement}
 use Rattle.rendering.proofs.text.put.Tie as tie
-use Rattle.rendering.proofs.text.put.Reads as reads
-use Rattle.rendering.proofs.text.put.Lts as lts
 
 slice-write-out : tie.Need-slice-write-out
 slice-write-out c = search needs

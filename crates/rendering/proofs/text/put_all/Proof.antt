@@ -1,14 +1,13 @@
+-- `put_all`: the invariant is the part of the text that is copied so far.
 use borrow.Author.Needs.{needs}
-use mathlib.Core.Path.{_≡_, _∙_}
-use Prim.Native.Nat.{ℕ, _≤_, _<_, _-_, _+_}
+use mathlib.Core.Path.{_≡_}
+use Prim.Native.Nat.{_≤_, _-_, _+_}
 use native.Mathlib.Omega.{arith}
 use lib.ListN.{length, take, length-set}
 use Rattle.rendering.specs.Internal.{Wrote}
-use Rattle.rendering.proofs.Writing.{copy-none, copy-turn, copy-end}
+use Rattle.rendering.proofs.TextWrites.{copy-none, copy-turn, copy-end}
 use Rattle.rendering.proofs.text.put_all.Statement.{statement}
 use Rattle.rendering.proofs.text.put_all.Tie as tie
-use Rattle.rendering.proofs.text.put_all.Reads as reads
-use Rattle.rendering.proofs.text.put_all.Lts as lts
 
 abbrev Inv-loop : tie.InvT-loop
 Inv-loop out₀ at text i₀ out i = (i ≤ length text) × (at + length text ≤ length out₀) × (length out ≡ length out₀) × Wrote out₀ out at (at + i) (take i text)

@@ -1,40 +1,94 @@
-use Rattle.rendering.proofs.Writing.{then, wrote-as}
-use Rattle.rendering.proofs.Signed.{negative, positive, cents-small, cents-kept}
-use Rattle.rendering.specs.Ascii.{ascii}
-use Rattle.rendering.specs.Text.{decimal, decimalInt}
-use mathlib.Core.List.{_++_}
-use mathlib.Core.Path.{_≡_, sym, ap, _∙_}
+-- `put_cents`: a space, then the distance from zero, with a minus sign before that of a negative number.
+use Prim.Native.Nat.{_<_, _^_}
 use native.Mathlib.Omega.{arith}
+use mathlib.Core.Path.{ap}
+use mathlib.Core.List.{_++_}
+use lib.IntN.{natAbs}
+use lib.Signed.{mag}
+use mir.Syntax.{w64}
 use borrow.Author.Needs.{needs}
+use Rattle.order.proofs.Signed.{negative, not-negative, minus-fits, minus-is, kept-is, casts}
+use Rattle.rendering.specs.Ascii.{ascii}
+use Rattle.rendering.specs.Reports.{cents}
+use Rattle.rendering.proofs.TextWrites.{then, wrote-as}
+use Rattle.rendering.proofs.Cents.{cents-small, minus-text, plain-text}
 use Rattle.rendering.proofs.text.put_cents.Statement.{statement}
 use Rattle.rendering.proofs.text.put_cents.Tie as tie
-use Rattle.rendering.proofs.text.put_cents.Reads as reads
-use Rattle.rendering.proofs.text.put_cents.Lts as lts
-use Rattle.rendering.proofs.text.put.Reads as put-reads
-use Rattle.rendering.proofs.text.put_int.Reads as put-int-reads
+
+small : (c : tie.Start) → natAbs (cents (c .args .c)) < 2 ^ 63
+small c = cents-small (c .args .c) (c .pre .1) (c .pre .2)
+
+float-to-int-z : tie.Need-float-to-int-z
+float-to-int-z c = search needs
 
 put-requires : tie.Need-put-requires
 put-requires c κs = search needs
 
-float-to-int-put-int : tie.Need-float-to-int-put-int
-float-to-int-put-int c = search needs
+put-requires-2 : tie.Need-put-requires-2
+put-requires-2 c κs = search needs
 
-put-int-requires : tie.Need-put-int-requires
-put-int-requires c κs =
-    let p = c .before .before .before .before in
-    let s = p .before .before .before in
-    (omega (arith, p .put .ensures .ends, p .put .kept .0, s .pre .0), rw (cents-kept (s .args .c) (s .pre .1) (s .pre .2)) (cents-small (s .args .c) (s .pre .1) (s .pre .2)))
+sub-put-decimal : tie.Need-sub-put-decimal
+sub-put-decimal c =
+    let i = c .before .before .before .before .before in
+    let s = i .before .before .before .before .before .before .before in
+    minus-fits w64 (cents (s .args .c)) (small s) (i .if1 .taken)
+
+cast-put-decimal : tie.Need-cast-put-decimal
+cast-put-decimal c =
+    let i = c .before .before .before .before .before in
+    let s = i .before .before .before .before .before .before .before in
+    casts w64 (cents (s .args .c)) (small s) _ (minus-is w64 (cents (s .args .c)) (small s) (i .if1 .taken))
+
+put-decimal-requires : tie.Need-put-decimal-requires
+put-decimal-requires c κs = search needs
 
 same-length : tie.Need-same-length
 same-length c = search needs
 
 returns : tie.Need-returns
 returns c =
-    let d = c .before .before .put-int .ensures in
-    let p = c .before .before .before .before .before .before .before in
-    let s = p .before .before .before in
-    (wrote-as _ (ap (λ z. ascii " " ++ decimalInt z) (cents-kept (s .args .c) (s .pre .1) (s .pre .2))) (then (p .put .ensures) (d .0)), omega (arith, p .put .ensures .ends, d .1))
+    let d = c .before .before .put-decimal .ensures in
+    let m = c .before .before .before .before .before .before .put2 .ensures in
+    let i = c .before .before .before .before .before .before .before .before in
+    let p = i .before .before .before .put .ensures in
+    let s = i .before .before .before .before .before .before .before in
+    let z = cents (s .args .c) in
+    (wrote-as _ (ap (λ ys. ascii " " ++ ys) (minus-text z _ (ap natAbs (minus-is w64 z (small s) (i .if1 .taken))) (mag z) (negative w64 z (small s) (i .if1 .taken)))) (then p (then m (d .0))), omega (arith, p .ends, m .ends, d .1))
+
+cast-put-decimal-2 : tie.Need-cast-put-decimal-2
+cast-put-decimal-2 c =
+    let i = c .before in
+    let s = i .before .before .before .before .before .before .before in
+    casts w64 (cents (s .args .c)) (small s) _ (kept-is w64 (cents (s .args .c)) (small s) (i .if1 .left))
+
+put-decimal-requires-2 : tie.Need-put-decimal-requires-2
+put-decimal-requires-2 c κs = search needs
+
+same-length-2 : tie.Need-same-length-2
+same-length-2 c = search needs
+
+returns-2 : tie.Need-returns-2
+returns-2 c =
+    let d = c .before .before .put-decimal2 .ensures in
+    let i = c .before .before .before .before in
+    let p = i .before .before .before .put .ensures in
+    let s = i .before .before .before .before .before .before .before in
+    let z = cents (s .args .c) in
+    (wrote-as _ (ap (λ ys. ascii " " ++ ys) (plain-text z _ (ap natAbs (kept-is w64 z (small s) (i .if1 .left))) (not-negative w64 z (small s) (i .if1 .left)))) (then p (d .0)), omega (arith, p .ends, d .1))
 
 pub put-cents-spec : {M : Type 1} → statement M
 put-cents-spec =
-    tie.close (tie.spec put-requires float-to-int-put-int put-int-requires same-length returns)
+    tie.close
+    (tie.spec
+    float-to-int-z
+    put-requires
+    put-requires-2
+    sub-put-decimal
+    cast-put-decimal
+    put-decimal-requires
+    same-length
+    returns
+    cast-put-decimal-2
+    put-decimal-requires-2
+    same-length-2
+    returns-2)

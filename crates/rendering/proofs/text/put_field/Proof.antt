@@ -1,15 +1,9 @@
-use Rattle.rendering.proofs.Writing.{then, wrote-as}
-use Rattle.rendering.proofs.Signed.{negative, positive, cents-small, cents-kept}
-use Rattle.rendering.specs.Text.{decimal}
-use mathlib.Core.Path.{_≡_, sym, ap, _∙_}
+-- `put_field`: a space, and then the number.
+use Rattle.rendering.proofs.TextWrites.{then}
 use native.Mathlib.Omega.{arith}
 use borrow.Author.Needs.{needs}
 use Rattle.rendering.proofs.text.put_field.Statement.{statement}
 use Rattle.rendering.proofs.text.put_field.Tie as tie
-use Rattle.rendering.proofs.text.put_field.Reads as reads
-use Rattle.rendering.proofs.text.put_field.Lts as lts
-use Rattle.rendering.proofs.text.put.Reads as put-reads
-use Rattle.rendering.proofs.text.put_decimal.Reads as put-decimal-reads
 
 put-requires : tie.Need-put-requires
 put-requires c κs = search needs

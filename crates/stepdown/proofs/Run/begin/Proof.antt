@@ -1,6 +1,5 @@
 -- `Run::begin` meets its contract.
-use Rattle.stepdown.proofs.Calls.{begin-refused, begin-on, step-known, step-room, step-refused, work-kept, step-on, work-cleared}
-use mathlib.Core.Path.{_≡_, refl, sym, ap, _∙_}
+use Rattle.stepdown.proofs.Calls.{begin-refused, begin-on}
 use borrow.Author.Needs.{needs}
 use Rattle.stepdown.proofs.Run.begin.Statement.{statement}
 use Rattle.stepdown.proofs.Run.begin.Tie as tie

@@ -1,50 +1,48 @@
 -- `bad_progress` meets its contract, clause by clause.
-use Rattle.stepdown.proofs.Spoiling.{set-beyond, too-many-steps, rejected-at-start, ended-at-start, ended-later, few-for-steps, few-for-k, none-left, figures, figures-bad, figures-good, spoiled-bad, spoiled-else, spoiled-none}
-use native.Mathlib.Omega.{arith}
-use mathlib.Core.Path.{_≡_, refl, sym, ap, _∙_}
+use Rattle.stepdown.proofs.Spoiled.{set-beyond, too-many-steps, rejected-at-start, ended-at-start, ended-later, few-for-steps, few-for-k, none-left, figures}
 use borrow.Author.Needs.{needs}
 use Rattle.stepdown.proofs.refusal.bad_progress.Statement.{statement}
 use Rattle.stepdown.proofs.refusal.bad_progress.Tie as tie
 use Rattle.stepdown.proofs.refusal.bad_progress.Reads as reads
 use Rattle.stepdown.proofs.refusal.bad_progress.Lts as lts
-use Rattle.stepdown.proofs.bits.all_of.Reads as all-of-reads
-use Rattle.stepdown.proofs.bits.size_of.Reads as size-of-reads
+use Rattle.critical.proofs.full_mask.Reads as full-mask-reads
+use Rattle.critical.proofs.size_of.Reads as size-of-reads
 
-all-of-requires : tie.Need-all-of-requires
-all-of-requires c κs = figures _ (c .pre) .shaped .columns-most
+full-mask-requires : tie.Need-full-mask-requires
+full-mask-requires c κs = figures _ (c .pre) .shaped .columns-most
 
 returns : tie.Need-returns
-returns c = set-beyond _ _ (c .before .before .all-of .ensures) (c .if1 .taken)
+returns c = set-beyond _ _ (c .before .before .full-mask .ensures) (c .if1 .taken)
 
 returns-2 : tie.Need-returns-2
-returns-2 c = too-many-steps _ _ (c .before .before .before .before .all-of .ensures) (c .before .before .if1 .left) (c .if2 .taken)
+returns-2 c = too-many-steps _ (c .if2 .taken)
 
 returns-3 : tie.Need-returns-3
-returns-3 c = rejected-at-start _ _ (c .before .before .before .before .before .before .before .before .all-of .ensures) (c .before .before .before .before .before .before .if1 .left) (c .before .before .before .before .if2 .left) (c .before .before .if3 .taken) (c .if4 .taken)
+returns-3 c = rejected-at-start _ (c .before .before .if3 .taken) (c .if4 .taken)
 
 returns-4 : tie.Need-returns-4
-returns-4 c = ended-at-start _ _ (c .before .before .before .before .before .before .before .before .all-of .ensures) (c .before .before .before .before .before .before .if1 .left) (c .before .before .before .before .if2 .left) (c .before .before .if3 .taken) (c .if4 .left)
+returns-4 c = ended-at-start _ _ (c .before .before .before .before .before .before .before .before .full-mask .ensures) (c .before .before .before .before .before .before .if1 .left) (c .before .before .before .before .if2 .left) (c .before .before .if3 .taken) (c .if4 .left)
 
 returns-5 : tie.Need-returns-5
-returns-5 c = ended-later _ _ (c .before .before .before .before .before .before .before .all-of .ensures) (c .before .before .before .before .before .if1 .left) (c .before .before .before .if2 .left) (c .before .if3 .left) (c .if5 .taken)
+returns-5 c = ended-later _ _ (c .before .before .before .before .before .before .before .full-mask .ensures) (c .before .before .before .before .before .if1 .left) (c .before .before .before .if2 .left) (c .before .if3 .left) (c .if5 .taken)
 
 size-of-requires : tie.Need-size-of-requires
 size-of-requires c κs = search needs
 
 returns-6 : tie.Need-returns-6
-returns-6 c = few-for-steps _ _ (c .before .before .before .before .before .before .before .before .before .before .all-of .ensures) (c .before .before .before .before .before .before .before .before .if1 .left) (c .before .before .before .before .before .before .if2 .left) (c .before .before .before .before .if3 .left) (c .before .before .before .if5 .left) _ (c .before .before .size-of .ensures) (c .if6 .taken)
+returns-6 c = few-for-steps _ (c .before .before .before .if5 .left) _ (c .before .before .size-of .ensures) (c .if6 .taken)
 
 returns-7 : tie.Need-returns-7
-returns-7 c = few-for-k _ _ (c .before .before .before .before .before .before .before .before .before .before .before .before .all-of .ensures) (c .before .before .before .before .before .before .before .before .before .before .if1 .left) (c .before .before .before .before .before .before .before .before .if2 .left) (c .before .before .before .before .before .before .if3 .left) (c .before .before .before .before .before .if5 .left) _ (c .before .before .before .before .size-of .ensures) (c .before .before .if6 .left) (c .if7 .taken)
+returns-7 c = few-for-k _ (c .before .before .before .before .before .if5 .left) (c .before .before .before .before .before .before .if3 .left) _ (c .before .before .before .before .size-of .ensures) (c .if7 .taken)
 
 returns-8 : tie.Need-returns-8
-returns-8 c = none-left _ _ (c .before .before .before .before .before .before .before .before .before .before .before .before .before .all-of .ensures) (c .before .before .before .before .before .before .before .before .before .before .before .if1 .left) (c .before .before .before .before .before .before .before .before .before .if2 .left) (c .before .before .before .before .before .before .before .if3 .left) (c .before .before .before .before .before .before .if5 .left) _ (c .before .before .before .before .before .size-of .ensures) (c .before .before .before .if6 .left) (c .before .if7 .left)
+returns-8 c = none-left _ _ (c .before .before .before .before .before .before .before .before .before .before .before .before .before .full-mask .ensures) (c .before .before .before .before .before .before .before .before .before .before .before .if1 .left) (c .before .before .before .before .before .before .before .before .before .if2 .left) (c .before .before .before .before .before .before .before .if3 .left) (c .before .before .before .before .before .before .if5 .left) _ (c .before .before .before .before .before .size-of .ensures) (c .before .before .before .if6 .left) (c .before .if7 .left)
 
 pub bad-progress-spec : {M : Type 1} → statement M
 bad-progress-spec =
     tie.close
     (tie.spec
-    all-of-requires
+    full-mask-requires
     returns
     returns-2
     returns-3

@@ -1,14 +1,14 @@
 -- `of_beginning` meets its contract.
-use Rattle.stepdown.specs.Refusals.{firstRefusal, outside, badShape, badLevel, badValue, tableChecks, tableRunRefusal, beginRefusal, badFigures, badProgress, spoiled, stepRefusal}
-use Rattle.order.proofs.Booleans.{or-holds, or-passes, holds, passes, not-yes, not-no}
-use borrow.Author.Tests.{lt-ltb, le-ltb, le-leb, lt-leb, eq-eqb, ne-eqb}
-use mathlib.Core.Path.{_≡_, refl, sym, ap, _∙_}
+use Rattle.order.proofs.Booleans.{holds, passes}
+use Rattle.stepdown.specs.Refusals.{beginRefusal}
+use borrow.Author.Tests.{le-leb, lt-leb}
+use mathlib.Core.Path.{refl, sym, _∙_}
 use borrow.Author.Needs.{needs}
 use Rattle.stepdown.proofs.refusal.of_beginning.Statement.{statement}
 use Rattle.stepdown.proofs.refusal.of_beginning.Tie as tie
 use Rattle.stepdown.proofs.refusal.of_beginning.Reads as reads
 use Rattle.stepdown.proofs.refusal.of_beginning.Lts as lts
-use Rattle.stepdown.proofs.refusal.bad_level.Reads as bad-level-reads
+use Rattle.refusals.proofs.bad_level.Reads as bad-level-reads
 use Rattle.stepdown.proofs.refusal.bad_shape.Reads as bad-shape-reads
 
 bad-shape-requires : tie.Need-bad-shape-requires

@@ -1,12 +1,11 @@
 -- `of_step` meets its contract.
-use Rattle.stepdown.proofs.Rows.{size-fits}
-use Rattle.stepdown.specs.Refusals.{stepRefusal}
-use mathlib.Core.Bool.{not}
 use Rattle.order.proofs.Booleans.{holds, passes, not-yes, not-no}
-use borrow.Author.Tests.{lt-ltb, le-ltb, le-leb, lt-leb, eq-eqb, ne-eqb}
-use Rattle.stepdown.proofs.Spoiling.{set-beyond, too-many-steps, rejected-at-start, ended-at-start, ended-later, few-for-steps, few-for-k, none-left, figures, figures-bad, figures-good, spoiled-bad, spoiled-else, spoiled-none}
-use native.Mathlib.Omega.{arith}
-use mathlib.Core.Path.{_≡_, refl, sym, ap, _∙_}
+use Rattle.stepdown.specs.Refusals.{stepRefusal}
+use Rattle.stepdown.proofs.Calls.{size-fits}
+use Rattle.stepdown.proofs.Spoiled.{figures, spoiled-none}
+use mathlib.Core.Bool.{not}
+use borrow.Author.Tests.{lt-ltb, le-ltb, eq-eqb, ne-eqb}
+use mathlib.Core.Path.{refl, sym, ap, _∙_}
 use borrow.Author.Needs.{needs}
 use Rattle.stepdown.proofs.refusal.of_step.Statement.{statement}
 use Rattle.stepdown.proofs.refusal.of_step.Tie as tie

@@ -1,19 +1,18 @@
 -- `of_table` meets its contract.
-use Rattle.stepdown.proofs.Rows.{size-fits}
-use Rattle.stepdown.proofs.Accepted.{Shape, shape}
-use native.Mathlib.Omega.{arith}
-use Rattle.stepdown.specs.Refusals.{firstRefusal, outside, badShape, badLevel, badValue, tableChecks, tableRunRefusal, beginRefusal, badFigures, badProgress, spoiled, stepRefusal}
-use Rattle.order.proofs.Booleans.{or-holds, or-passes, holds, passes, not-yes, not-no}
+use Rattle.order.proofs.Booleans.{holds, passes, not-yes, not-no}
+use Rattle.stepdown.specs.Refusals.{tableRunRefusal}
+use Rattle.stepdown.proofs.Calls.{size-fits}
+use Rattle.stepdown.proofs.Accepted.{shape}
 use borrow.Author.Tests.{lt-ltb, le-ltb, le-leb, lt-leb, eq-eqb, ne-eqb}
 use mathlib.Core.Bool.{not}
-use mathlib.Core.Path.{_≡_, refl, sym, ap, _∙_}
+use mathlib.Core.Path.{refl, sym, ap, _∙_}
 use borrow.Author.Needs.{needs}
 use Rattle.stepdown.proofs.refusal.of_table.Statement.{statement}
 use Rattle.stepdown.proofs.refusal.of_table.Tie as tie
 use Rattle.stepdown.proofs.refusal.of_table.Reads as reads
 use Rattle.stepdown.proofs.refusal.of_table.Lts as lts
 use Rattle.order.proofs.all_finite.Reads as all-finite-reads
-use Rattle.stepdown.proofs.refusal.bad_level.Reads as bad-level-reads
+use Rattle.refusals.proofs.bad_level.Reads as bad-level-reads
 use Rattle.stepdown.proofs.refusal.bad_shape.Reads as bad-shape-reads
 
 bad-shape-requires : tie.Need-bad-shape-requires

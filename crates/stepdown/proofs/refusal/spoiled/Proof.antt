@@ -1,7 +1,5 @@
 -- `spoiled` meets its contract.
-use Rattle.stepdown.proofs.Spoiling.{set-beyond, too-many-steps, rejected-at-start, ended-at-start, ended-later, few-for-steps, few-for-k, none-left, figures, figures-bad, figures-good, spoiled-bad, spoiled-else, spoiled-none}
-use native.Mathlib.Omega.{arith}
-use mathlib.Core.Path.{_≡_, refl, sym, ap, _∙_}
+use Rattle.stepdown.proofs.Spoiled.{figures-bad, figures-good, spoiled-else}
 use borrow.Author.Needs.{needs}
 use Rattle.stepdown.proofs.refusal.spoiled.Statement.{statement}
 use Rattle.stepdown.proofs.refusal.spoiled.Tie as tie
@@ -14,7 +12,7 @@ of-beginning-requires : tie.Need-of-beginning-requires
 of-beginning-requires c κs = search needs
 
 returns : tie.Need-returns
-returns c = spoiled-bad _ (figures-bad _ _ (c .before .of-beginning .ensures) (c .if1 .taken))
+returns c = figures-bad _ _ (c .before .of-beginning .ensures) (c .if1 .taken)
 
 bad-progress-requires : tie.Need-bad-progress-requires
 bad-progress-requires c κs = figures-good _ _ (c .before .of-beginning .ensures) (c .if1 .left)

@@ -5,7 +5,7 @@ use Prim.Native.Nat.{_≤_, _-_}
 use native.Mathlib.Omega.{arith}
 use lib.ListN.{length, take}
 use borrow.Author.Needs.{needs}
-use Rattle.stepdown.specs.Refusals.{firstRefusal}
+use Rattle.refusals.specs.Answers.{firstRefusal}
 use Rattle.trial.specs.Refusals.{differenceChecks}
 use Rattle.trial.proofs.Conditions.{differencesFrom, differences-start, differences-next, differences-none}
 use Rattle.trial.proofs.checks.differences.Statement.{statement}

@@ -4,13 +4,14 @@ use Prim.Native.Nat.{_≤_}
 use native.Mathlib.Omega.{arith}
 use lib.ListN.{length}
 use borrow.Author.Needs.{needs}
-use Rattle.trial.specs.Refusals.{has, earlierOf}
+use Rattle.trial.specs.Refusals.{among}
+use Rattle.trial.specs.Internal.{earlierOf}
 use Rattle.trial.proofs.Conditions.{earlier-hit, earlier-turn, earlier-none}
 use Rattle.trial.proofs.checks.earlier.Statement.{statement}
 use Rattle.trial.proofs.checks.earlier.Tie as tie
 
 abbrev Inv-loop : tie.InvT-loop
-Inv-loop i code codes j₀ j = (j ≤ i) × (i ≤ 16) × (i ≤ length codes) × (has code (earlierOf i codes) ≡ has code (earlierOf j codes))
+Inv-loop i code codes j₀ j = (j ≤ i) × (i ≤ 16) × (i ≤ length codes) × (among code (earlierOf i codes) ≡ among code (earlierOf j codes))
 
 abbrev μ-loop : tie.MeasureT-loop
 μ-loop i code codes j₀ j = j
@@ -28,16 +29,16 @@ array-read-if1 : tie.Need-array-read-if1 Inv-loop μ-loop
 array-read-if1 c = omega arith
 
 returns : tie.Need-returns Inv-loop μ-loop
-returns c = let l = c .before .before .loop .inv in sym (l .3 ∙ earlier-hit _ _ _ (c .before .loop-test .taken) (c .if1 .taken))
+returns c = let l = c .before .before .loop in sym (l .inv .3 ∙ earlier-hit _ _ (l .j) (omega arith) (c .if1 .taken))
 
 loop-less : tie.Need-loop-less Inv-loop μ-loop
 loop-less c = omega arith
 
 loop-again : tie.Need-loop-again Inv-loop μ-loop
-loop-again c = let l = c .before .before .loop .inv in (omega arith, l .1, l .2, l .3 ∙ earlier-turn _ _ _ (c .before .loop-test .taken) (c .if1 .left))
+loop-again c = let l = c .before .before .loop in (omega arith, l .inv .1, l .inv .2, l .inv .3 ∙ earlier-turn _ _ (l .j) (omega arith) (c .if1 .left))
 
 returns-2 : tie.Need-returns-2 Inv-loop μ-loop
-returns-2 c = sym (c .before .loop .inv .3 ∙ earlier-none _ _ _ (c .loop-test .left))
+returns-2 c = sym (c .before .loop .inv .3 ∙ earlier-none _ _ (c .before .loop .j) (omega arith))
 
 pub earlier-spec : {M : Type 1} → statement M
 earlier-spec =

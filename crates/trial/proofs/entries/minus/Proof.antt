@@ -1,11 +1,12 @@
 -- `trial::entries::minus` meets its contract.
 use lib.IntN.{_-ℤ_}
-use Rattle.trial.proofs.Places.{abs-minus, cast-fits, op-fits, op-is, op-below}
+use Rattle.order.proofs.Signed.{wide-fits}
+use Rattle.trial.proofs.Places.{abs-minus, op-fits, op-is, op-below}
 use Rattle.trial.proofs.entries.minus.Statement.{statement}
 use Rattle.trial.proofs.entries.minus.Tie as tie
 
 cast-result : tie.Need-cast-result
-cast-result c = cast-fits _-ℤ_ abs-minus (c .args .sum) (c .args .d) (c .fits .sum) (c .fits .d) (c .pre)
+cast-result c = wide-fits (c .args .d) (c .fits .d)
 
 sub-result : tie.Need-sub-result
 sub-result c = op-fits _-ℤ_ abs-minus (c .args .sum) (c .args .d) (c .fits .sum) (c .fits .d) (c .pre)

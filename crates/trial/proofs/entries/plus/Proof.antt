@@ -1,12 +1,13 @@
 -- `trial::entries::plus` meets its contract.
 use lib.IntN.{_+ℤ_}
+use Rattle.order.proofs.Signed.{wide-fits}
 use Rattle.trial.proofs.Sums.{abs-add}
-use Rattle.trial.proofs.Places.{cast-fits, op-fits, op-is, op-below}
+use Rattle.trial.proofs.Places.{op-fits, op-is, op-below}
 use Rattle.trial.proofs.entries.plus.Statement.{statement}
 use Rattle.trial.proofs.entries.plus.Tie as tie
 
 cast-result : tie.Need-cast-result
-cast-result c = cast-fits _+ℤ_ abs-add (c .args .sum) (c .args .d) (c .fits .sum) (c .fits .d) (c .pre)
+cast-result c = wide-fits (c .args .d) (c .fits .d)
 
 add-result : tie.Need-add-result
 add-result c = op-fits _+ℤ_ abs-add (c .args .sum) (c .args .d) (c .fits .sum) (c .fits .d) (c .pre)

@@ -1,6 +1,6 @@
 -- `judge`: the length, or else the level, or else the shape, or else the words after it.
 use mathlib.Core.Path.{sym, _∙_}
-use Rattle.trialfile.proofs.Judged.{length-bad, level-decides, shape-decides, shape-most, to-body}
+use Rattle.trialfile.proofs.Conditions.{length-bad, level-decides, shape-decides, shape-most, to-body}
 use borrow.Author.Needs.{needs}
 use Rattle.trialfile.proofs.judging.judge.Statement.{statement}
 use Rattle.trialfile.proofs.judging.judge.Tie as tie

@@ -4,7 +4,7 @@ use Prim.Native.Nat.{_*_, _≤_}
 use native.Mathlib.Omega.{arith}
 use Rattle.trialfile.specs.Words.{wordsOf}
 use Rattle.trialfile.proofs.Parts.{product-most}
-use Rattle.trialfile.proofs.Judged.{body-offers, body-differences, body-end}
+use Rattle.trialfile.proofs.Conditions.{body-offers, body-differences, body-end}
 use borrow.Author.Needs.{needs}
 use Rattle.trialfile.proofs.judging.judge_body.Statement.{statement}
 use Rattle.trialfile.proofs.judging.judge_body.Tie as tie

@@ -1,5 +1,5 @@
 -- `judge_difference`: two tests in order.
-use Rattle.trialfile.proofs.Judged.{difference-judged}
+use Rattle.trialfile.proofs.Conditions.{difference-judged}
 use borrow.Author.Needs.{needs}
 use Rattle.trialfile.proofs.judging.judge_difference.Statement.{statement}
 use Rattle.trialfile.proofs.judging.judge_difference.Tie as tie

@@ -3,10 +3,10 @@ use mathlib.Core.Path.{_≡_, sym, _∙_}
 use Prim.Native.Nat.{_-_, _≤_}
 use native.Mathlib.Omega.{arith}
 use lib.ListN.{drop}
-use Rattle.stepdown.specs.Refusals.{firstRefusal}
+use Rattle.refusals.specs.Answers.{firstRefusal}
 use Rattle.trialfile.specs.Words.{wordsOf}
 use Rattle.trialfile.specs.Files.{differencePlaces}
-use Rattle.trialfile.proofs.Judged.{differencesFrom, differences-start, difference-decides, difference-passes, differences-end}
+use Rattle.trialfile.proofs.Conditions.{differencesFrom, differences-start, difference-decides, difference-passes, differences-end}
 use borrow.Author.Needs.{needs}
 use Rattle.trialfile.proofs.judging.judge_differences.Statement.{statement}
 use Rattle.trialfile.proofs.judging.judge_differences.Tie as tie

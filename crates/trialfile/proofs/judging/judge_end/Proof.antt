@@ -1,5 +1,5 @@
 -- `judge_end`: the tests of a place, in order.
-use Rattle.trialfile.proofs.Judged.{end-judged}
+use Rattle.trialfile.proofs.Conditions.{end-judged}
 use borrow.Author.Needs.{needs}
 use Rattle.trialfile.proofs.judging.judge_end.Statement.{statement}
 use Rattle.trialfile.proofs.judging.judge_end.Tie as tie

@@ -1,5 +1,5 @@
 -- `judge_level`: the tests of a place, in order.
-use Rattle.trialfile.proofs.Judged.{level-judged}
+use Rattle.trialfile.proofs.Conditions.{level-judged}
 use borrow.Author.Needs.{needs}
 use Rattle.trialfile.proofs.judging.judge_level.Statement.{statement}
 use Rattle.trialfile.proofs.judging.judge_level.Tie as tie

@@ -1,5 +1,5 @@
 -- `judge_offer`: three tests in order.
-use Rattle.trialfile.proofs.Judged.{offer-judged}
+use Rattle.trialfile.proofs.Conditions.{offer-judged}
 use borrow.Author.Needs.{needs}
 use Rattle.trialfile.proofs.judging.judge_offer.Statement.{statement}
 use Rattle.trialfile.proofs.judging.judge_offer.Tie as tie

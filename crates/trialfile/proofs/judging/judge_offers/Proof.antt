@@ -4,10 +4,10 @@ use Prim.Native.Nat.{_-_, _≤_}
 use native.Mathlib.Omega.{arith}
 use mathlib.Core.List.{[]}
 use lib.ListN.{drop}
-use Rattle.stepdown.specs.Refusals.{firstRefusal}
+use Rattle.refusals.specs.Answers.{firstRefusal}
 use Rattle.trialfile.specs.Words.{wordsOf}
 use Rattle.trialfile.specs.Files.{offerPlaces}
-use Rattle.trialfile.proofs.Judged.{offersFrom, offers-start, offer-decides, offer-passes, offers-end}
+use Rattle.trialfile.proofs.Conditions.{offersFrom, offers-start, offer-decides, offer-passes, offers-end}
 use borrow.Author.Needs.{needs}
 use Rattle.trialfile.proofs.judging.judge_offers.Statement.{statement}
 use Rattle.trialfile.proofs.judging.judge_offers.Tie as tie

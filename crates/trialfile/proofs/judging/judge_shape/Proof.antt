@@ -1,5 +1,5 @@
 -- `judge_shape`: the tests of a place, in order.
-use Rattle.trialfile.proofs.Judged.{shape-judged}
+use Rattle.trialfile.proofs.Conditions.{shape-judged}
 use borrow.Author.Needs.{needs}
 use Rattle.trialfile.proofs.judging.judge_shape.Statement.{statement}
 use Rattle.trialfile.proofs.judging.judge_shape.Tie as tie

@@ -5,7 +5,7 @@ use native.Mathlib.Omega.{arith}
 use lib.ListN.{length}
 use lib.IntN.{pos}
 use Rattle.trialfile.specs.Words.{wordsOf, differenceOf}
-use Rattle.trialfile.proofs.Filling.{filling, fill-turn, fill-end}
+use Rattle.trialfile.proofs.Arrays.{filling, fill-turn, fill-end}
 use Rattle.trialfile.proofs.Signed.{field-kept}
 use borrow.Author.Needs.{needs}
 use Rattle.trialfile.proofs.reader.read_differences.Statement.{statement}

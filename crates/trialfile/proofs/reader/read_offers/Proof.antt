@@ -4,7 +4,7 @@ use Prim.Native.Nat.{_+_, _-_, _/_, _%_, _≤_}
 use native.Mathlib.Omega.{arith}
 use lib.ListN.{length}
 use Rattle.trialfile.specs.Words.{wordsOf, codeOf, digitsOf}
-use Rattle.trialfile.proofs.Filling.{filling, fill-turn, fill-end}
+use Rattle.trialfile.proofs.Arrays.{filling, fill-turn, fill-end}
 use borrow.Author.Needs.{needs}
 use Rattle.trialfile.proofs.reader.read_offers.Statement.{statement}
 use Rattle.trialfile.proofs.reader.read_offers.Tie as tie

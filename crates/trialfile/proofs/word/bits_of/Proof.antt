@@ -1,5 +1,5 @@
 -- `bits_of`: two's complement in 28 bits.
-use Rattle.trialfile.proofs.Signed.{moved-fits, moved-is, kept-is, field-casts, field-is}
+use Rattle.trialfile.proofs.Signed.{moved-fits, moved-is, as-is, field-casts, field-is}
 use Rattle.trialfile.proofs.word.bits_of.Statement.{statement}
 use Rattle.trialfile.proofs.word.bits_of.Tie as tie
 
@@ -13,10 +13,10 @@ returns : tie.Need-returns
 returns c = let d = c .before .args .d in field-is d (c .before .pre) _ (moved-is d (c .before .pre) (c .if1 .taken))
 
 cast-result-2 : tie.Need-cast-result-2
-cast-result-2 c = let d = c .before .args .d in field-casts d (c .before .pre) _ (kept-is d (c .before .pre) (c .if1 .left))
+cast-result-2 c = let d = c .before .args .d in field-casts d (c .before .pre) _ (as-is d (c .before .pre) (c .if1 .left))
 
 returns-2 : tie.Need-returns-2
-returns-2 c = let d = c .before .args .d in field-is d (c .before .pre) _ (kept-is d (c .before .pre) (c .if1 .left))
+returns-2 c = let d = c .before .args .d in field-is d (c .before .pre) _ (as-is d (c .before .pre) (c .if1 .left))
 
 pub bits-of-spec : {M : Type 1} → statement M
 bits-of-spec = tie.close (tie.spec add-result cast-result returns cast-result-2 returns-2)

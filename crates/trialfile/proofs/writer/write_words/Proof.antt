@@ -3,7 +3,7 @@ use mathlib.Core.Path.{_≡_, _∙_}
 use Prim.Native.Nat.{_+_, _-_, _*_, _≤_}
 use native.Mathlib.Omega.{arith}
 use lib.ListN.{length}
-use Rattle.trial.specs.Record.{Typed}
+use Rattle.trial.specs.Record.{ArrayLengths}
 use Rattle.trial.specs.Refusals.{trialRefusal}
 use Rattle.trialfile.specs.Files.{wordsBefore}
 use Rattle.trialfile.specs.Writings.{fileWords, fileOf}
@@ -14,7 +14,7 @@ use Rattle.trialfile.proofs.writer.write_words.Statement.{statement}
 use Rattle.trialfile.proofs.writer.write_words.Tie as tie
 
 abbrev Inv-loop : tie.InvT-loop
-Inv-loop t n out₀ at₀ out at = Typed t × (trialRefusal t ≡ 0) × (n ≡ wordsBefore t + 1) × (at ≤ n) × (4 * n ≤ length out₀) × (length out ≡ length out₀) × (out ≡ stored (fileWords t) out₀ at)
+Inv-loop t n out₀ at₀ out at = ArrayLengths t × (trialRefusal t ≡ 0) × (n ≡ wordsBefore t + 1) × (at ≤ n) × (4 * n ≤ length out₀) × (length out ≡ length out₀) × (out ≡ stored (fileWords t) out₀ at)
 
 abbrev μ-loop : tie.MeasureT-loop
 μ-loop t n out₀ at₀ out at = n - at

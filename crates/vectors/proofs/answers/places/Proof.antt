@@ -1,28 +1,23 @@
--- The lists of a full run. The invariant: the buffer keeps its length.
-use mathlib.Core.Path.{_≡_}
+-- The lists of a full run; nothing has to be known of the line.
 use Prim.Native.Nat.{_-_}
-use lib.ListN.{length}
 use borrow.Author.Needs.{needs}
 use Rattle.vectors.proofs.answers.places.Statement.{statement}
 use Rattle.vectors.proofs.answers.places.Tie as tie
 
 abbrev Inv-loop : tie.InvT-loop
-Inv-loop out₀ at f l₀ j₀ out l j = length out ≡ length out₀
+Inv-loop f q₀ j₀ q j = Unit
 
 abbrev μ-loop : tie.MeasureT-loop
-μ-loop out₀ at f l₀ j₀ out l j = 32 - j
-
-start-requires : tie.Need-start-requires Inv-loop μ-loop
-start-requires c κs = search needs
+μ-loop f q₀ j₀ q j = 32 - j
 
 loop-holds : tie.Need-loop-holds Inv-loop μ-loop
 loop-holds c = search needs
 
-mul-mark : tie.Need-mul-mark Inv-loop μ-loop
-mul-mark c = search needs
+mul-logged : tie.Need-mul-logged Inv-loop μ-loop
+mul-logged c = search needs
 
-element-copy-out-mark : tie.Need-element-copy-out-mark Inv-loop μ-loop
-element-copy-out-mark c = search needs
+element-copy-out-logged : tie.Need-element-copy-out-logged Inv-loop μ-loop
+element-copy-out-logged c = search needs
 
 mul-one : tie.Need-mul-one Inv-loop μ-loop
 mul-one c = search needs
@@ -30,14 +25,20 @@ mul-one c = search needs
 element-copy-out-one : tie.Need-element-copy-out-one Inv-loop μ-loop
 element-copy-out-one c = search needs
 
-mul-place : tie.Need-mul-place Inv-loop μ-loop
-mul-place c = search needs
+record-requires : tie.Need-record-requires Inv-loop μ-loop
+record-requires c κs = search needs
 
-element-copy-out-place : tie.Need-element-copy-out-place Inv-loop μ-loop
-element-copy-out-place c = search needs
+verdict-requires : tie.Need-verdict-requires Inv-loop μ-loop
+verdict-requires c κs = search needs
 
-place-requires : tie.Need-place-requires Inv-loop μ-loop
-place-requires c κs = search needs
+mul-put : tie.Need-mul-put Inv-loop μ-loop
+mul-put c = search needs
+
+element-copy-out-put : tie.Need-element-copy-out-put Inv-loop μ-loop
+element-copy-out-put c = search needs
+
+put-requires : tie.Need-put-requires Inv-loop μ-loop
+put-requires c κs = search needs
 
 add-j : tie.Need-add-j Inv-loop μ-loop
 add-j c = search needs
@@ -48,9 +49,6 @@ loop-less c = search needs
 loop-again : tie.Need-loop-again Inv-loop μ-loop
 loop-again c = search needs
 
-same-length : tie.Need-same-length Inv-loop μ-loop
-same-length c = search needs
-
 returns : tie.Need-returns Inv-loop μ-loop
 returns c = search needs
 
@@ -60,17 +58,17 @@ places-spec =
     (tie.spec
     Inv-loop
     μ-loop
-    start-requires
     loop-holds
-    mul-mark
-    element-copy-out-mark
+    mul-logged
+    element-copy-out-logged
     mul-one
     element-copy-out-one
-    mul-place
-    element-copy-out-place
-    place-requires
+    record-requires
+    verdict-requires
+    mul-put
+    element-copy-out-put
+    put-requires
     add-j
     loop-less
     loop-again
-    same-length
     returns)

@@ -1,34 +1,29 @@
--- Differences as text. The invariant: the text keeps its length.
-use mathlib.Core.Path.{_≡_}
+-- Differences one by one; nothing has to be known of the line.
 use Prim.Native.Nat.{_-_}
-use lib.ListN.{length}
 use borrow.Author.Needs.{needs}
 use Rattle.vectors.proofs.trials.differences.Statement.{statement}
 use Rattle.vectors.proofs.trials.differences.Tie as tie
 
 abbrev Inv-loop : tie.InvT-loop
-Inv-loop out₀ at xs l₀ i₀ out l i = length out ≡ length out₀
+Inv-loop xs q₀ i₀ q i = Unit
 
 abbrev μ-loop : tie.MeasureT-loop
-μ-loop out₀ at xs l₀ i₀ out l i = 144 - i
-
-start-requires : tie.Need-start-requires Inv-loop μ-loop
-start-requires c κs = search needs
+μ-loop xs q₀ i₀ q i = 144 - i
 
 loop-holds : tie.Need-loop-holds Inv-loop μ-loop
 loop-holds c = search needs
 
-mul-d : tie.Need-mul-d Inv-loop μ-loop
-mul-d c = search needs
+mul-shifted : tie.Need-mul-shifted Inv-loop μ-loop
+mul-shifted c = search needs
 
-array-copy-out-d : tie.Need-array-copy-out-d Inv-loop μ-loop
-array-copy-out-d c = search needs
+array-copy-out-shifted : tie.Need-array-copy-out-shifted Inv-loop μ-loop
+array-copy-out-shifted c = search needs
 
-magnitude-requires : tie.Need-magnitude-requires Inv-loop μ-loop
-magnitude-requires c κs = search needs
+shifted-requires : tie.Need-shifted-requires Inv-loop μ-loop
+shifted-requires c κs = search needs
 
-number-requires : tie.Need-number-requires Inv-loop μ-loop
-number-requires c κs = search needs
+put-requires : tie.Need-put-requires Inv-loop μ-loop
+put-requires c κs = search needs
 
 add-i : tie.Need-add-i Inv-loop μ-loop
 add-i c = search needs
@@ -39,9 +34,6 @@ loop-less c = search needs
 loop-again : tie.Need-loop-again Inv-loop μ-loop
 loop-again c = search needs
 
-same-length : tie.Need-same-length Inv-loop μ-loop
-same-length c = search needs
-
 returns : tie.Need-returns Inv-loop μ-loop
 returns c = search needs
 
@@ -51,14 +43,12 @@ differences-spec =
     (tie.spec
     Inv-loop
     μ-loop
-    start-requires
     loop-holds
-    mul-d
-    array-copy-out-d
-    magnitude-requires
-    number-requires
+    mul-shifted
+    array-copy-out-shifted
+    shifted-requires
+    put-requires
     add-i
     loop-less
     loop-again
-    same-length
     returns)

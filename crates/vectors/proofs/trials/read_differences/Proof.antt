@@ -1,4 +1,4 @@
--- Differences of a frame. The invariant: the array keeps its length.
+-- Differences of the input. The invariant: the array keeps its length.
 use mathlib.Core.Path.{_≡_}
 use Prim.Native.Nat.{_-_}
 use lib.ListN.{length}
@@ -7,25 +7,22 @@ use Rattle.vectors.proofs.trials.read_differences.Statement.{statement}
 use Rattle.vectors.proofs.trials.read_differences.Tie as tie
 
 abbrev Inv-loop : tie.InvT-loop
-Inv-loop body xs₀ i₀ xs i = length xs ≡ 144
+Inv-loop given xs₀ i₀ xs i = length xs ≡ 144
 
 abbrev μ-loop : tie.MeasureT-loop
-μ-loop body xs₀ i₀ xs i = 144 - i
+μ-loop given xs₀ i₀ xs i = 144 - i
+
+word-requires : tie.Need-word-requires Inv-loop μ-loop
+word-requires c κs = search needs
 
 loop-holds : tie.Need-loop-holds Inv-loop μ-loop
 loop-holds c = search needs
 
-mul-short : tie.Need-mul-short Inv-loop μ-loop
-mul-short c = search needs
+word-or-requires : tie.Need-word-or-requires Inv-loop μ-loop
+word-or-requires c κs = search needs
 
-add-short : tie.Need-add-short Inv-loop μ-loop
-add-short c = search needs
-
-short-requires : tie.Need-short-requires Inv-loop μ-loop
-short-requires c κs = search needs
-
-signed-requires : tie.Need-signed-requires Inv-loop μ-loop
-signed-requires c κs = search needs
+difference-requires : tie.Need-difference-requires Inv-loop μ-loop
+difference-requires c κs = search needs
 
 mul-xs : tie.Need-mul-xs Inv-loop μ-loop
 mul-xs c = search needs
@@ -51,11 +48,10 @@ read-differences-spec =
     (tie.spec
     Inv-loop
     μ-loop
+    word-requires
     loop-holds
-    mul-short
-    add-short
-    short-requires
-    signed-requires
+    word-or-requires
+    difference-requires
     mul-xs
     array-set-from-xs
     add-i

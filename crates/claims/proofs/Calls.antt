@@ -1,0 +1,157 @@
+-- Every call in the one form of an answer, and the stated orders; what accepted calls hand out beyond the page.
+-- With `every-call` and `refused-unchanged` of Claims.antt each line below says of its call which number comes when, and what the buffers hold.
+--   ..-order         the conditions of a call, as document 01 lists them
+--   ..-told          the paper's number and values for each case of an answer
+--   ..-number        the number that an answer holds is that of the first condition that holds
+--   ..-accepted      what an accepted call hands out
+use Prim.Native.Nat.{ℕ, _+_, _*_, _<_}
+use mathlib.Core.Path.{_≡_, refl}
+use mathlib.Core.Bool.{true, false, not}
+use mathlib.Core.List.{List, [], _∷_, _++_}
+use lib.ListN.{length, getD, take}
+use lib.Dec.{ltb, leb, eqb}
+use lib.Ieee.{Float, nan}
+use Rattle.order.specs.Lists.{rowsOf}
+use Rattle.refusals.specs.Answers.{r1, r3, r4, r9, r10, r11, r12, r13, r14, answer}
+use Rattle.refusals.specs.Limits.{badLevel}
+use Rattle.refusals.specs.Buffers.{tooShort, written}
+use Rattle.refusals.proofs.Answers.{answered, answer-map}
+use Rattle.runs.specs.FullRuns.{noRecord, acceptedRun, refusedRun}
+use Rattle.runs.specs.Tables.{tableRun}
+use Rattle.runs.specs.declared.FullRun.{FullRun}
+use Rattle.stepdown.specs.Runs.{begun, nextRun, stepRecord}
+use Rattle.stepdown.specs.Refusals.{badShape, badValue, tableChecks, tableRunChecks, tableRunRefusal, beginChecks, spoiled, stepChecks, stepRefusal}
+use Rattle.stepdown.specs.Answers.{told, toldByBeginning, toldByStep, beginAnswer, stepAnswer, fullAnswer}
+use Rattle.stepdown.specs.declared.Run.{Run}
+use Rattle.verdicts.specs.Verdicts.{rejectedCount}
+use Rattle.trial.specs.Exchange.{rowTotal, tableOf}
+use Rattle.trial.specs.Refusals.{badCounts, offerChecks, differenceChecks, trialChecks}
+use Rattle.trial.specs.Lent.{tableCallChecks, tableCallRefusal, tableBuffer}
+use Rattle.trial.specs.declared.Trial.{Trial}
+use Rattle.trialfile.specs.Words.{wordsOf, word, offersOf, pairsOf}
+use Rattle.trialfile.specs.Files.{badLength, levelPlace, shapePlace, bodyPlaces, fileChecks, fileRefusal, readingOf}
+use Rattle.trialfile.specs.Writings.{fileLength, writeChecks, writeRefusal, writingOf}
+use Rattle.trialfile.specs.declared.Writing.{Writing}
+use Rattle.trialfile.proofs.RoundTrip.{read-refusal}
+use Rattle.trialrun.specs.TrialRuns.{trialRun, runCallChecks, runCallRefusal, trialAnswer}
+use Rattle.trialrun.specs.FileRuns.{fileRun}
+use Rattle.host.specs.Calls.{stepBytes, fileOffers, trialVerdictsChecks, trialVerdictsRefusal, trialVerdictsAnswer, trialVerdictsBuffer, tableVerdictsChecks, tableVerdictsRefusal, tableVerdictsAnswer, tableVerdictsBuffer}
+use Rattle.view.specs.Entries.{entryOf, held}
+use Rattle.stepdown.proofs.Calls as calls
+use Rattle.stepdown.proofs.StepByStep as steps
+use Rattle.view.proofs.Places as places
+
+-- ==== the stated orders ====
+
+-- a file: 1 first, then words from the start: level, shape, offers, differences, end
+pub file-order : (bytes : List ℕ) → let ws = wordsOf bytes in
+    fileChecks bytes ≡ (badLength bytes, r1) ∷ (levelPlace (word ws 0) ++ (shapePlace (word ws 1) ++ bodyPlaces (offersOf (word ws 1)) (pairsOf (word ws 1)) ws))
+unfolding fileChecks
+file-order bytes = refl
+
+-- a trial given as a record: 4, 3, then offers (at each, 5 before 6), then differences; for its table, its run and the writer the same, then 12
+module _ (t : Trial) where
+  pub record-order : trialChecks t ≡
+      (badCounts (t .k) (t .offers) (t .pairs), r4)
+      ∷ (badLevel (t .a) (t .b), r3)
+      ∷ (offerChecks [] (take (t .offers) (t .codes)) (take (t .offers) (t .digits)) ++ differenceChecks (take (t .offers * t .pairs) (t .differences)))
+  unfolding trialChecks
+  record-order = refl
+
+  pub lent-order : (places work : ℕ)
+      → (tableCallChecks t places ≡ trialChecks t ++ tooShort places (rowTotal t * t .offers))
+      × (runCallChecks t places work ≡ trialChecks t ++ (tooShort places (rowTotal t * t .offers) ++ tooShort work (rowTotal t)))
+      × (writeChecks t places ≡ trialChecks t ++ tooShort places (fileLength t))
+  unfolding tableCallChecks writeChecks
+  lent-order places work = (refl, refl, refl)
+
+-- beginning a run: 4, 3, 10; a table: 4, 3, 9, 10, 11, then 12
+module _ (rows columns k a b observed : ℕ) where
+  pub begin-order : beginChecks rows columns k a b observed ≡ (badShape rows columns k, r4) ∷ (badLevel a b, r3) ∷ (leb rows observed, r10) ∷ []
+  begin-order = refl
+
+  pub table-order : (t : List Float) (places : ℕ) → tableRunChecks t rows columns k a b observed places ≡
+      (badShape rows columns k, r4)
+      ∷ (badLevel a b, r3)
+      ∷ (not (eqb (length t) (rows * columns)), r9)
+      ∷ (leb rows observed, r10)
+      ∷ (badValue t, r11)
+      ∷ (ltb places rows, r12)
+      ∷ []
+  unfolding tableChecks
+  table-order t places = refl
+
+-- a step: 14, 13, 9, 11, 12
+pub step-order : (t : List Float) (r : Run) (places : ℕ) → stepChecks t r places ≡
+    (spoiled r, r14)
+    ∷ (r .ended, r13)
+    ∷ (not (eqb (length t) (r .rows * r .columns)), r9)
+    ∷ (badValue t, r11)
+    ∷ (ltb places (r .rows), r12)
+    ∷ []
+step-order t r places = refl
+
+-- the calls for C: the same as for a file and for a table, and 12 last
+pub c-order : (file : List ℕ) (t : List Float) (rows columns k a b observed work places : ℕ)
+    → (trialVerdictsChecks file places ≡ fileChecks file ++ tooShort places (fileOffers file))
+    × (tableVerdictsChecks t rows columns k a b observed work places ≡ tableChecks t rows columns k a b observed ++ (tooShort work rows ++ tooShort places columns))
+unfolding tableChecks
+c-order file t rows columns k a b observed work places = (refl, refl)
+
+-- ==== the numbers and values that are answered ====
+
+pub begin-told : (rows columns k a b observed : ℕ) (r : Run)
+    → toldByBeginning r (beginAnswer rows columns k a b observed) ≡ answer (beginChecks rows columns k a b observed) (told 0 (begun rows columns k a b observed) noRecord) (λ n. told n r noRecord)
+begin-told = calls.begin-told
+
+pub step-told : (t : List Float) (r : Run) (places : ℕ)
+    → toldByStep r (stepAnswer t r places) ≡ answer (stepChecks t r places) (told 0 (nextRun t r) (stepRecord t r)) (λ n. told n r noRecord)
+step-told = calls.step-told
+
+pub full-number : (t : List Float) (rows columns k a b observed places : ℕ) → fullAnswer t rows columns k a b observed places .refusal ≡ tableRunRefusal t rows columns k a b observed places
+unfolding fullAnswer tableRunRefusal acceptedRun
+full-number t rows columns k a b observed places = answer-map (λ (f : FullRun). f .refusal) (tableRunChecks t rows columns k a b observed places) (acceptedRun (tableRun t rows columns k a b observed)) refusedRun
+
+pub trial-number : (t : Trial) (places work : ℕ) → trialAnswer t places work .refusal ≡ runCallRefusal t places work
+unfolding trialAnswer runCallRefusal acceptedRun
+trial-number t places work = answer-map (λ (f : FullRun). f .refusal) (runCallChecks t places work) (acceptedRun (trialRun t)) refusedRun
+
+pub read-number : (bytes : List ℕ) → readingOf bytes .refusal ≡ fileRefusal bytes
+read-number = read-refusal
+
+pub write-number : (t : Trial) (places : ℕ) → writingOf t places .refusal ≡ writeRefusal t places
+unfolding writingOf writeRefusal
+write-number t places = answer-map (λ (w : Writing). w .refusal) (writeChecks t places) (record { refusal = 0; length = fileLength t }) (λ n. record { refusal = n; length = 0 })
+
+-- ==== what accepted calls hand out ====
+
+-- a run that an accepted step hands back can be stepped again until it has ended, and is then refused by 13: never by 14
+module _ (t : List Float) (r : Run) (places : ℕ) (h : stepRefusal t r places ≡ 0) where
+  pub step-again : nextRun t r .ended ≡ false → stepRefusal t (nextRun t r) places ≡ 0
+  step-again = steps.step-again t r places h
+
+  pub step-over : nextRun t r .ended ≡ true → stepRefusal t (nextRun t r) places ≡ 13
+  step-over = steps.step-over t r places h
+
+pub table-accepted : (t : Trial) (buf : List Float) → tableCallRefusal t (length buf) ≡ 0 → tableBuffer t buf ≡ written (tableOf t) buf
+unfolding tableBuffer tableCallRefusal
+table-accepted t buf h = answered (tableCallChecks t (length buf)) _ (λ _. buf) .gives h
+
+-- from C: the number of rejected offers, and the rejecting steps in the first bytes
+pub c-trial-accepted : (file verdicts : List ℕ) → trialVerdictsRefusal file (length verdicts) ≡ 0 → let ds = fileRun file .run .decisions in
+    (trialVerdictsAnswer file (length verdicts) ≡ rejectedCount (fileOffers file) ds) × (trialVerdictsBuffer file verdicts ≡ written (stepBytes (fileOffers file) ds) verdicts)
+unfolding trialVerdictsAnswer trialVerdictsBuffer trialVerdictsRefusal
+c-trial-accepted file verdicts h = (answered (trialVerdictsChecks file (length verdicts)) _ (λ n. 100 + n) .gives h, answered (trialVerdictsChecks file (length verdicts)) _ (λ _. verdicts) .gives h)
+
+pub c-table-accepted : (t : List Float) (rows columns k a b observed : ℕ) (work : ℕ) (verdicts : List ℕ) → tableVerdictsRefusal t rows columns k a b observed work (length verdicts) ≡ 0
+    → let ds = acceptedRun (tableRun t rows columns k a b observed) .decisions in
+    (tableVerdictsAnswer t rows columns k a b observed work (length verdicts) ≡ rejectedCount columns ds)
+    × (tableVerdictsBuffer t rows columns k a b observed work verdicts ≡ written (stepBytes columns ds) verdicts)
+unfolding tableVerdictsAnswer tableVerdictsBuffer tableVerdictsRefusal
+c-table-accepted t rows columns k a b observed work verdicts h =
+    (answered (tableVerdictsChecks t rows columns k a b observed work (length verdicts)) _ (λ n. 100 + n) .gives h, answered (tableVerdictsChecks t rows columns k a b observed work (length verdicts)) _ (λ _. verdicts) .gives h)
+
+-- a view of a whole table shows the values that the method looks at
+pub view-entry : (xs : List Float) (rows columns row column : ℕ) → length xs ≡ rows * columns → row < rows → column < columns
+    → held (entryOf xs rows columns row column) ≡ getD (getD (rowsOf rows columns xs) row []) column nan ∷ []
+view-entry xs rows columns row column full r c = mathlib.Core.Path.ap held (places.row-value xs rows columns row column full r c)

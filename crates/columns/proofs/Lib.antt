@@ -1,0 +1,3 @@
+pub mod Sets
+pub mod Masks
+pub mod PutBack

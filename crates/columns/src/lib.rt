@@ -1,0 +1,1 @@
+// Sets of columns: definitions in specs/, laws in proofs/. No code.

@@ -1,0 +1,7 @@
+pub mod Selection
+pub mod RowMax
+pub mod TableRows
+pub mod PutBackWalk
+pub mod PutBackValue
+pub mod MaskScan
+pub mod Tally

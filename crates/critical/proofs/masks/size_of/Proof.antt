@@ -1,0 +1,45 @@
+-- `size_of` meets its contract. The invariant: what is counted and what is still to be counted make the whole.
+use Rattle.columns.specs.Columns.{size, columnsOf}
+use Rattle.critical.proofs.MaskScan.{size-start, size-in, size-past, size-done}
+use mathlib.Core.Logic.{⊎-elim}
+use Prim.Native.Nat.{_≤_, _+_, _-_}
+use native.Mathlib.Omega.{arith}
+use mathlib.Core.Path.{_≡_}
+use borrow.Author.Needs.{needs}
+use Rattle.critical.proofs.masks.size_of.Statement.{statement}
+use Rattle.critical.proofs.masks.size_of.Tie as tie
+use Rattle.critical.proofs.masks.size_of.Reads as reads
+use Rattle.critical.proofs.masks.size_of.Lts as lts
+
+abbrev Inv-loop : tie.InvT-loop
+Inv-loop cols set n₀ s₀ i₀ n s i = (i ≤ cols) × (n ≤ i) × (n + size (columnsOf (cols - i) s) ≡ size (columnsOf cols set))
+
+abbrev μ-loop : tie.MeasureT-loop
+μ-loop cols set n₀ s₀ i₀ n s i = cols - i
+
+loop-holds : tie.Need-loop-holds Inv-loop μ-loop
+loop-holds c = (omega arith, omega arith, size-start _ _)
+
+add-n : tie.Need-add-n Inv-loop μ-loop
+add-n c = search needs
+
+add-i : tie.Need-add-i Inv-loop μ-loop
+add-i c = search needs
+
+loop-less : tie.Need-loop-less Inv-loop μ-loop
+loop-less c = search needs
+
+loop-again : tie.Need-loop-again Inv-loop μ-loop
+loop-again c =
+    let l = c .before .before .loop .inv in
+    ⊎-elim
+    (λ w. (omega arith, omega arith, size-in _ _ _ (c .before .loop-test .taken) _ _ _ (w .0 .taken) (w .1) (l .2)))
+    (λ w. (omega arith, omega arith, size-past _ _ _ (c .before .loop-test .taken) _ _ _ (w .0 .left) (w .1) (l .2)))
+    (c .if1 .came)
+
+returns : tie.Need-returns Inv-loop μ-loop
+returns c = size-done _ _ _ _ _ (c .loop-test .left) (c .before .loop .inv .2)
+
+pub size-of-spec : {M : Type 1} → statement M
+size-of-spec =
+    tie.close (tie.spec Inv-loop μ-loop loop-holds add-n add-i loop-less loop-again returns)

@@ -1,0 +1,24 @@
+// Critical values of a table that has passed its checks: a row's k-max, c(K), the put-back value, and counts of rows.
+// INNER: these functions ask for a checked table (`requires`). Their callers are `engine`, and `stepdown` for the mask of all columns and the
+// size of a mask; no other crate uses them.
+mod counts; // formula 16: how many rows reach an observed value
+mod kmax; // a row's k-max
+mod masks; // sets of columns as the bits of a number
+mod putback; // the walk over put-back sets
+mod quantile; // c(K): a quantile of the k-max values, with the work buffer
+mod smallest; // the m-th smallest of a slice
+
+pub use counts::at_least;
+pub use masks::above;
+pub use masks::full_mask;
+pub use masks::size_of;
+pub use putback::put_back;
+pub use quantile::critical_value;
+
+// What stays the same in all critical values of a run: M and the columns, k, and e.
+pub struct Figures {
+    pub rows: usize,
+    pub columns: usize,
+    pub k: usize,
+    pub e: usize,
+}

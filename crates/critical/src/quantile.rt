@@ -1,0 +1,36 @@
+// c(K): the rows' k-max values over a set go into the work buffer, and the (M - e)-th smallest of them is found there.
+use super::Figures;
+use super::kmax;
+use super::smallest;
+ghost use mathlib.Core.Path.{_≡_};
+ghost use mathlib.Core.List.{map};
+ghost use Prim.Native.Nat.{_<_, _≤_};
+ghost use lib.ListN.{length, drop};
+ghost use Rattle.order.specs.Lists.{rowsOf};
+ghost use Rattle.refusals.specs.Buffers.{written};
+ghost use Rattle.columns.specs.Columns.{size, columnsOf};
+ghost use Rattle.method.specs.Method.{kMax, criticalValue};
+ghost use Rattle.critical.specs.Internal.{CheckedTable};
+
+// The k-max of each row over the columns of `set`, into the first places of the work buffer.
+fn fill(table: &[f64], work: &mut [f64], rows: usize, cols: usize, k: usize, set: u32)
+    requires { ⌜ CheckedTable (now table) rows cols k × (rows ≤ length (now work)) × (k ≤ size (columnsOf cols set)) ⌝ }
+    ensures { λ _. ⌜ now (work .exit) ≡ written (map (λ row. kMax k (columnsOf cols set) row) (rowsOf rows cols (now (table .entry)))) (now (work .entry)) ⌝ }
+{
+    let mut g: usize = 0;
+    while g < rows {
+        let a = g * cols;
+        let e = a + cols;
+        work[g] = kmax::kmax(&table[a..e], set, k);
+        g += 1;
+    }
+}
+
+// The critical value of the columns of `set`; of the work buffer only the first M places change.
+pub fn critical_value(table: &[f64], work: &mut [f64], f: Figures, set: u32) -> f64
+    requires { ⌜ CheckedTable (now table) (f .rows) (f .columns) (f .k) × (f .rows ≤ length (now work)) × (f .k ≤ size (columnsOf (f .columns) set)) × (f .e < f .rows) ⌝ }
+    ensures { λ r. ⌜ (r ≡ criticalValue (f .k) (f .e) (rowsOf (f .rows) (f .columns) (now (table .entry))) (columnsOf (f .columns) set)) × (drop (f .rows) (now (work .exit)) ≡ drop (f .rows) (now (work .entry))) ⌝ }
+{
+    fill(table, work, f.rows, f.columns, f.k, set);
+    smallest::mth_smallest(&work[..f.rows], f.rows - f.e)
+}

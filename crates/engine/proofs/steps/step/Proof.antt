@@ -1,0 +1,77 @@
+-- `step` meets its contract.
+use Rattle.order.proofs.Lists.{part-rows}
+use Rattle.critical.proofs.TableRows.{start-fits, part-row, part-narrow, mask-fits}
+use Rattle.engine.proofs.OneStep.{rejected-under, new-fits, step-is}
+use native.Mathlib.Omega.{arith}
+use borrow.Author.Needs.{needs}
+use Rattle.engine.proofs.steps.step.Statement.{statement}
+use Rattle.engine.proofs.steps.step.Tie as tie
+use Rattle.engine.proofs.steps.step.Reads as reads
+use Rattle.engine.proofs.steps.step.Lts as lts
+use Rattle.critical.proofs.above.Reads as above-reads
+use Rattle.engine.proofs.steps.critical_of.Reads as critical-of-reads
+use Rattle.engine.proofs.steps.ends.Reads as ends-reads
+
+critical-of-requires : tie.Need-critical-of-requires
+critical-of-requires c κs = search needs
+
+mul-from : tie.Need-mul-from
+mul-from c = let g = c .before .before .before .before .before .before .before .pre .0 in let f = start-fits _ _ _ (g .ready .rows-most) (g .ready .cols-most) (g .seen) in omega (arith, f)
+
+add-to : tie.Need-add-to
+add-to c = let g = c .before .before .before .before .before .before .before .before .pre .0 in let f = start-fits _ _ _ (g .ready .rows-most) (g .ready .cols-most) (g .seen) in omega (arith, f)
+
+sub-remaining : tie.Need-sub-remaining
+sub-remaining c = rejected-under _ _ (c .before .before .before .before .before .before .before .before .before .pre .0)
+
+mul-above : tie.Need-mul-above
+mul-above c = let g = c .before .before .before .before .before .before .before .before .before .pre .0 in let f = start-fits _ _ _ (g .ready .rows-most) (g .ready .cols-most) (g .seen) in omega (arith, f)
+
+sub-above : tie.Need-sub-above
+sub-above c = search needs
+
+part-above-start : tie.Need-part-above-start
+part-above-start c = search needs
+
+part-above-end : tie.Need-part-above-end
+part-above-end c = let s = c .before .before .before .before .before .before .before .before .before in let g = s .pre .0 in let a = s .args .s in omega (arith, part-rows (a .rows) (a .columns) (a .observed) (g .seen), g .ready .full)
+
+above-requires : tie.Need-above-requires
+above-requires c κs = let g = c .before .before .before .before .before .before .before .before .before .before .pre .0 in part-narrow _ _ _ _ _ (g .ready) (g .seen)
+
+add-rejected : tie.Need-add-rejected
+add-rejected c = let s = c .before .before .before .before .before .before .before .before .before .before .before in let g = s .before .pre .0 in record { fits = mask-fits (g .ready .cols-most) (new-fits _ _ g _ (c .before .before .before .before .before .before .before .before .critical-of .ensures .0) _ (part-row _ _ _ _ _ (g .ready) (g .seen)) _ (c .before .above .ensures)) }
+
+ends-requires : tie.Need-ends-requires
+ends-requires c κs = search needs
+
+add-number : tie.Need-add-number
+add-number c = let g = c .before .before .before .before .before .before .before .before .before .before .before .before .before .before .pre .0 in omega (arith, g .steps-most)
+
+same-length : tie.Need-same-length
+same-length c = search needs
+
+returns : tie.Need-returns
+returns c =
+    let g = c .before .before .before .before .before .before .before .before .before .before .before .before .before .before .pre .0 in
+    let b = c .before .before .before .before .before .before .before .before .before .before .critical-of .ensures in
+    (step-is _ _ g _ (b .0) _ (part-row _ _ _ _ _ (g .ready) (g .seen)) _ (c .before .before .before .above .ensures) _ (c .before .ends .ensures), b .1)
+
+pub step-spec : {M : Type 1} → statement M
+step-spec =
+    tie.close
+    (tie.spec
+    critical-of-requires
+    mul-from
+    add-to
+    sub-remaining
+    mul-above
+    sub-above
+    part-above-start
+    part-above-end
+    above-requires
+    add-rejected
+    ends-requires
+    add-number
+    same-length
+    returns)

@@ -1,0 +1,8 @@
+// The stepdown method at e and over the live columns, on a table that has passed its checks: one step, and the full run.
+// INNER: these functions ask for a checked table (`requires`). Their caller is `stepdown`; no other crate uses them.
+mod steps; // one step
+mod tracing; // all steps of a run, and the verdicts read off them
+
+pub use steps::clear;
+pub use steps::step;
+pub use tracing::full_run;

@@ -1,0 +1,1 @@
+// The method at e: k-max, critical values, the put-back value, counts. Definitions in specs/, laws in proofs/. No code.

@@ -1,0 +1,33 @@
+-- A lent buffer while its first places are written.
+--   filled f X g w     the first g places hold f of the first g members of X
+--   filled-start, filled-turn, filled-end     before the first, one more, and after the last
+use Prim.Native.Nat.{ℕ, suc, _+_, _≤_, _<_}
+use native.Mathlib.Omega.{arith}
+use native.Mathlib.Numerals.{add-one}
+use mathlib.Core.Path.{_≡_, refl, sym, ap, ap₂, _∙_}
+use mathlib.Core.List.{List, [], _∷_, _++_, map, append-assoc}
+use lib.ListN.{length, getD, take, drop, set, length-map}
+use lib.Seq.{take-suc, drop-cons, set-at, take-all, length-take-le}
+use Rattle.order.proofs.Lists.{map-more}
+use Rattle.refusals.specs.Buffers.{written}
+
+-- the buffer once g values are written
+pub filled : {A B : Type 0} → (A → B) → List A → ℕ → List B → List B
+filled f X g w = map f (take g X) ++ drop g w
+
+module _ {A B : Type 0} (f : A → B) (X : List A) (w₀ : List B) (d : A) where
+  pub filled-start : w₀ ≡ filled f X 0 w₀
+  unfolding filled
+  filled-start = refl
+
+  pub filled-turn : (g : ℕ) (w : List B) (v : B) (e : B) → g < length X → g < length w₀ → w ≡ filled f X g w₀ → v ≡ f (getD X g d) → set w g v ≡ filled f X (g + 1) w₀
+  unfolding filled
+  filled-turn g w v e h l p q =
+      ap (λ (u : List B). set u g v) (p ∙ ap (λ (u : List B). map f (take g X) ++ u) (drop-cons w₀ g e l))
+      ∙ set-at (map f (take g X)) (getD w₀ g e) (drop (suc g) w₀) v g (length-map (take g X) f ∙ length-take-le g X (omega arith))
+      ∙ sym (append-assoc (map f (take g X)) (v ∷ []) (drop (suc g) w₀))
+      ∙ ap₂ (λ (u : List B) (n : ℕ). u ++ drop n w₀) (ap (λ (y : B). map f (take g X) ++ (y ∷ [])) q ∙ sym (map-more f (take g X) (getD X g d)) ∙ ap (map f) (sym (take-suc X g d h)) ∙ ap (λ (n : ℕ). map f (take n X)) (sym (add-one g))) (sym (add-one g))
+
+  pub filled-end : (g : ℕ) (w : List B) → length X ≤ g → g ≤ length X → w ≡ filled f X g w₀ → w ≡ written (map f X) w₀
+  unfolding filled
+  filled-end g w h l p = p ∙ ap₂ (λ (u : List A) (n : ℕ). map f u ++ drop n w₀) (take-all g X h) (let e : g ≡ length (map f X) = omega (arith, length-map X f) in e)

@@ -1,0 +1,6 @@
+pub mod Steps
+pub mod Covers
+pub mod Start
+pub mod Termination
+pub mod Descent
+pub mod Examples

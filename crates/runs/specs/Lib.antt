@@ -1,0 +1,4 @@
+pub mod Stepdown
+pub mod FullRuns
+pub mod Tables
+pub mod Examples

@@ -1,0 +1,20 @@
+-- `trial::size` meets its contract: it is refused as the record is, and else tells 2 ^ pairs rows and the offers.
+use borrow.Author.Needs.{needs}
+use Rattle.trial.proofs.Calls.{known, size-refused, size-given}
+use Rattle.trial.proofs.size.Statement.{statement}
+use Rattle.trial.proofs.size.Tie as tie
+
+check-requires : tie.Need-check-requires
+check-requires c κs = search needs
+
+returns : tie.Need-returns
+returns c = size-refused _ _ (c .before .check .ensures) (c .if1 .taken)
+
+rows-requires : tie.Need-rows-requires
+rows-requires c κs = known _ _ (c .before .check .ensures) (c .if1 .left) .pairs-most
+
+returns-2 : tie.Need-returns-2
+returns-2 c = size-given _ _ (c .before .before .check .ensures) (c .before .if1 .left) _ (c .rows .ensures)
+
+pub size-spec : {M : Type 1} → statement M
+size-spec = tie.close (tie.spec check-requires returns rows-requires returns-2)

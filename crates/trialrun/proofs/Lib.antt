@@ -1,0 +1,4 @@
+pub mod Runs
+pub mod Files
+pub mod Unused
+pub mod Examples

@@ -1,0 +1,41 @@
+-- Places that the counts of a record don't use change nothing: two records that agree on the others have the same
+--   run-same                         full run
+--   answer-same                      answer of a call for the full run
+--   runTable-same, runWork-same      buffers after it
+use Prim.Native.Nat.{ℕ, _*_}
+use mathlib.Core.Path.{_≡_, ap, ap₂, _∙_}
+use mathlib.Core.List.{List, _++_}
+use lib.ListN.{length}
+use lib.Ieee.{Float}
+use Rattle.refusals.specs.Answers.{Checks, answer, afterwards}
+use Rattle.refusals.specs.Buffers.{tooShort, written, cleared}
+use Rattle.runs.specs.Stepdown.{Outcome}
+use Rattle.runs.specs.FullRuns.{acceptedRun, refusedRun}
+use Rattle.trial.specs.Exchange.{rowTotal}
+use Rattle.trial.specs.Refusals.{trialChecks}
+use Rattle.trial.specs.Used.{SameUsed}
+use Rattle.trial.specs.declared.Trial.{Trial}
+use Rattle.trial.proofs.Unused.{checks-same, table-same, rows-same}
+use Rattle.trialrun.specs.TrialRuns.{trialRun, runCallChecks, trialAnswer, runTable, runWork}
+
+module _ (t u : Trial) (s : SameUsed t u) where
+  pub run-same : trialRun t ≡ trialRun u
+  unfolding trialRun
+  run-same = rw (table-same t u s, rows-same t u s, s .offers-same, s .k-same, s .a-same, s .b-same)
+
+  asked-same : (places work : ℕ) → runCallChecks t places work ≡ runCallChecks u places work
+  asked-same places work =
+      ap₂ (λ (cs : Checks) (m : ℕ). cs ++ (tooShort places (m * t .offers) ++ tooShort work m)) (checks-same t u s) (rows-same t u s)
+      ∙ ap (λ (n : ℕ). trialChecks u ++ (tooShort places (rowTotal u * n) ++ tooShort work (rowTotal u))) (s .offers-same)
+
+  pub answer-same : (places work : ℕ) → trialAnswer t places work ≡ trialAnswer u places work
+  unfolding trialAnswer
+  answer-same places work = ap₂ (λ (cs : Checks) (o : Outcome). answer cs (acceptedRun o) refusedRun) (asked-same places work) run-same
+
+  pub runTable-same : (buf : List Float) (work : ℕ) → runTable t buf work ≡ runTable u buf work
+  unfolding runTable
+  runTable-same buf work = ap₂ (λ (cs : Checks) (xs : List Float). afterwards cs (written xs buf) buf) (asked-same (length buf) work) (table-same t u s)
+
+  pub runWork-same : (places : ℕ) (buf : List Float) → runWork t places buf ≡ runWork u places buf
+  unfolding runWork
+  runWork-same places buf = ap₂ (λ (cs : Checks) (m : ℕ). afterwards cs (cleared m buf) buf) (asked-same places (length buf)) (rows-same t u s)

@@ -1,0 +1,2 @@
+pub mod TrialRuns
+pub mod FileRuns

@@ -1,0 +1,40 @@
+-- The full run of a trial with lent buffers. Definitions only.
+--   trialRun t          the full run of a trial: of its table, with row 0 observed
+--   runCallChecks, runCallRefusal    of a full run, with a table buffer and a work buffer of so many places: the record's refusals, then 12 for either
+--   trialAnswer t places work        what the full run answers
+--   runTable, runWork                the table buffer and the work buffer after it; both unchanged where it is refused
+use Prim.Native.Nat.{ℕ, _*_}
+use mathlib.Core.List.{List, _++_}
+use lib.ListN.{length}
+use lib.Ieee.{Float}
+use Rattle.refusals.specs.Answers.{Checks, answer, firstRefusal, afterwards}
+use Rattle.refusals.specs.Buffers.{tooShort, written, cleared}
+use Rattle.runs.specs.Stepdown.{Outcome}
+use Rattle.runs.specs.FullRuns.{acceptedRun, refusedRun}
+use Rattle.runs.specs.Tables.{tableRun}
+use Rattle.runs.specs.declared.FullRun.{FullRun}
+use Rattle.trial.specs.Exchange.{rowTotal, tableOf}
+use Rattle.trial.specs.Refusals.{trialChecks}
+use Rattle.trial.specs.declared.Trial.{Trial}
+
+unfoldable pub trialRun : Trial → Outcome
+unfolding tableRun tableOf rowTotal
+trialRun t = tableRun (tableOf t) (rowTotal t) (t .offers) (t .k) (t .a) (t .b) 0
+
+abbrev pub runCallChecks : Trial → ℕ → ℕ → Checks
+runCallChecks t places work = trialChecks t ++ (tooShort places (rowTotal t * t .offers) ++ tooShort work (rowTotal t))
+
+unfoldable pub runCallRefusal : Trial → ℕ → ℕ → ℕ
+unfolding firstRefusal
+runCallRefusal t places work = firstRefusal (runCallChecks t places work)
+
+unfoldable pub trialAnswer : Trial → ℕ → ℕ → FullRun
+unfolding trialRun
+trialAnswer t places work = answer (runCallChecks t places work) (acceptedRun (trialRun t)) refusedRun
+
+unfoldable pub runTable : Trial → List Float → ℕ → List Float
+unfolding tableOf
+runTable t table work = afterwards (runCallChecks t (length table) work) (written (tableOf t) table) table
+
+unfoldable pub runWork : Trial → ℕ → List Float → List Float
+runWork t places work = afterwards (runCallChecks t places (length work)) (cleared (rowTotal t) work) work
