@@ -44,7 +44,7 @@ pub fn size_of(cols: usize, set: u32) -> usize
 }
 
 // Whether the lowest column is in the set and its value is larger than v.
-fn marked(s: u32, v: f64, x: f64) -> bool
+fn lowest_over(s: u32, v: f64, x: f64) -> bool
     ensures { λ r. ⌜ r ≡ (eqb (s % 2) 1 && smaller v x) ⌝ }
 {
     if s % 2 == 1 {
@@ -62,7 +62,7 @@ pub fn above(row: &[f64], set: u32, v: f64) -> u32
     let mut s = set;
     let mut i: usize = 0;
     while i < row.len() {
-        if marked(s, v, row[i]) {
+        if lowest_over(s, v, row[i]) {
             m += bit(i);
         }
         s /= 2;

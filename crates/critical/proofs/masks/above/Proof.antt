@@ -12,7 +12,7 @@ use Rattle.critical.proofs.masks.above.Tie as tie
 use Rattle.critical.proofs.masks.above.Reads as reads
 use Rattle.critical.proofs.masks.above.Lts as lts
 use Rattle.critical.proofs.masks.bit.Reads as bit-reads
-use Rattle.critical.proofs.masks.marked.Reads as marked-reads
+use Rattle.critical.proofs.masks.lowest_over.Reads as lowest-over-reads
 
 abbrev Inv-loop : tie.InvT-loop
 Inv-loop row set v m₀ s₀ i₀ m s i = (i ≤ length row) × (length row ≤ 32) × (m < 2 ^ i) × (m + 2 ^ i * toMark row i s v ≡ maskOf (columnsOf (length row) set ∩ over v row))
@@ -23,14 +23,14 @@ abbrev μ-loop : tie.MeasureT-loop
 loop-holds : tie.Need-loop-holds Inv-loop μ-loop
 loop-holds c = (omega arith, c .before .pre, omega arith, mark-start _ _ _)
 
-mul-marked : tie.Need-mul-marked Inv-loop μ-loop
-mul-marked c = search needs
+mul-lowest-over : tie.Need-mul-lowest-over Inv-loop μ-loop
+mul-lowest-over c = search needs
 
-shared-slice-read-marked : tie.Need-shared-slice-read-marked Inv-loop μ-loop
-shared-slice-read-marked c = search needs
+shared-slice-read-lowest-over : tie.Need-shared-slice-read-lowest-over Inv-loop μ-loop
+shared-slice-read-lowest-over c = search needs
 
-marked-requires : tie.Need-marked-requires Inv-loop μ-loop
-marked-requires c κs = search needs
+lowest-over-requires : tie.Need-lowest-over-requires Inv-loop μ-loop
+lowest-over-requires c κs = search needs
 
 bit-requires : tie.Need-bit-requires Inv-loop μ-loop
 bit-requires c κs = search needs
@@ -49,8 +49,8 @@ loop-again c =
     let t = c .before .before .before in
     let l = t .before .loop .inv in
     ⊎-elim
-    (λ w. (omega arith, l .1, mark-room _ _ _ _ (l .2) (w .1 .ensures) (w .2), mark-in _ _ _ _ (t .loop-test .taken) _ _ _ _ (sym (c .before .marked .ensures) ∙ w .0 .taken) (w .1 .ensures) (w .2) (l .3)))
-    (λ w. (omega arith, l .1, mark-keep _ _ _ (l .2) (w .1), mark-past _ _ _ _ (t .loop-test .taken) _ _ _ (sym (c .before .marked .ensures) ∙ w .0 .left) (w .1) (l .3)))
+    (λ w. (omega arith, l .1, mark-room _ _ _ _ (l .2) (w .1 .ensures) (w .2), mark-in _ _ _ _ (t .loop-test .taken) _ _ _ _ (sym (c .before .lowest-over .ensures) ∙ w .0 .taken) (w .1 .ensures) (w .2) (l .3)))
+    (λ w. (omega arith, l .1, mark-keep _ _ _ (l .2) (w .1), mark-past _ _ _ _ (t .loop-test .taken) _ _ _ (sym (c .before .lowest-over .ensures) ∙ w .0 .left) (w .1) (l .3)))
     (c .if1 .came)
 
 returns : tie.Need-returns Inv-loop μ-loop
@@ -63,9 +63,9 @@ above-spec =
     Inv-loop
     μ-loop
     loop-holds
-    mul-marked
-    shared-slice-read-marked
-    marked-requires
+    mul-lowest-over
+    shared-slice-read-lowest-over
+    lowest-over-requires
     bit-requires
     add-m
     add-i

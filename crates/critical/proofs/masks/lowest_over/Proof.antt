@@ -1,0 +1,15 @@
+-- `lowest_over` meets its contract.
+use borrow.Author.Tests.{eq-eqb, ne-eqb}
+use Rattle.critical.proofs.masks.lowest_over.Statement.{statement}
+use Rattle.critical.proofs.masks.lowest_over.Tie as tie
+use Rattle.critical.proofs.masks.lowest_over.Reads as reads
+use Rattle.critical.proofs.masks.lowest_over.Lts as lts
+
+returns : tie.Need-returns
+returns c = simp (eq-eqb _ _ (c .if1 .taken))
+
+returns-2 : tie.Need-returns-2
+returns-2 c = simp (ne-eqb _ _ (c .if1 .left))
+
+pub lowest-over-spec : {M : Type 1} → statement M
+lowest-over-spec = tie.close (tie.spec returns returns-2)
