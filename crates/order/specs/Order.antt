@@ -6,7 +6,7 @@
 --   plusZero        the zero that is given for either zero
 --   withPlusZero x      x, and plus zero for either zero
 use Prim.Native.Nat.{zero, suc}
-use mathlib.Core.Bool.{Bool, true, false, _&&_}
+use mathlib.Core.Bool.{Bool, false, _&&_}
 use lib.IntN.{pos}
 use lib.Ieee.{Float, nan, inf, fin, binary64, lt, le, fits}
 

@@ -6,15 +6,6 @@ use Rattle.benchcalls.proofs.Parts.{run-parts}
 use Rattle.benchcalls.proofs.bench_table.Statement.{statement}
 use Rattle.benchcalls.proofs.bench_table.Tie as tie
 
-full-run-requires : tie.Need-full-run-requires
-full-run-requires c κs = search needs
-
-criticals-of-requires : tie.Need-criticals-of-requires
-criticals-of-requires c κs = search needs
-
-same-length : tie.Need-same-length
-same-length c = search needs
-
 returns : tie.Need-returns
 returns c =
     let r = c .before .before .before .before .before in
@@ -24,4 +15,4 @@ returns c =
     (c .before .criticals-of .ensures)
 
 pub bench-table-spec : {M : Type 1} → statement M
-bench-table-spec = tie.close (tie.spec full-run-requires criticals-of-requires same-length returns)
+bench-table-spec = tie.close (tie.spec (λ c κs. search needs) (λ c κs. search needs) (λ c. search needs) returns)

@@ -20,37 +20,16 @@ abbrev μ-loop : tie.MeasureT-loop
 loop-holds : tie.Need-loop-holds Inv-loop μ-loop
 loop-holds c = let p = c .before .pre in (omega arith, p .0, p .1, p .2, search needs, refl, put-start (c .before .args .t1) (c .before .args .n) (c .before .args .out .now))
 
-mul-d : tie.Need-mul-d Inv-loop μ-loop
-mul-d c = search needs
-
-array-copy-out-d : tie.Need-array-copy-out-d Inv-loop μ-loop
-array-copy-out-d c = search needs
-
-rejecting-step-requires : tie.Need-rejecting-step-requires Inv-loop μ-loop
-rejecting-step-requires c κs = search needs
-
 cast-out : tie.Need-cast-out Inv-loop μ-loop
 cast-out c =
     let l = c .before .before .before .loop .inv in
     record { fits = step-small _ _ _ _ (c .rejecting-step .ensures) (l .3) (omega (arith, l .1, l .4)) }
-
-slice-write-out : tie.Need-slice-write-out Inv-loop μ-loop
-slice-write-out c = search needs
-
-add-i : tie.Need-add-i Inv-loop μ-loop
-add-i c = search needs
-
-loop-less : tie.Need-loop-less Inv-loop μ-loop
-loop-less c = search needs
 
 loop-again : tie.Need-loop-again Inv-loop μ-loop
 loop-again c =
     let l = c .before .before .before .loop .inv in
     let t = c .before .before .loop-test .taken in
     (omega arith, l .1, l .2, l .3, l .4, simp length-set (l .5), put-turn _ _ _ _ (c .rejecting-step .ensures) _ _ _ t (omega (arith, l .1, l .4)) (l .2) (l .6))
-
-same-length : tie.Need-same-length Inv-loop μ-loop
-same-length c = search needs
 
 returns : tie.Need-returns Inv-loop μ-loop
 returns c = let l = c .before .loop .inv in put-end _ _ _ _ _ (l .0) (c .loop-test .left) (omega (arith, l .1, l .4)) (l .6)
@@ -62,13 +41,13 @@ put-steps-spec =
     Inv-loop
     μ-loop
     loop-holds
-    mul-d
-    array-copy-out-d
-    rejecting-step-requires
+    (λ c. search needs)
+    (λ c. search needs)
+    (λ c κs. search needs)
     cast-out
-    slice-write-out
-    add-i
-    loop-less
+    (λ c. search needs)
+    (λ c. search needs)
+    (λ c. search needs)
     loop-again
-    same-length
+    (λ c. search needs)
     returns)

@@ -6,20 +6,8 @@ use borrow.Author.Needs.{needs}
 use Rattle.host.proofs.table_verdicts.Statement.{statement}
 use Rattle.host.proofs.table_verdicts.Tie as tie
 
-slice-relend-prefix-full-run : tie.Need-slice-relend-prefix-full-run
-slice-relend-prefix-full-run c = search needs
-
-slice-aggregate-full-run : tie.Need-slice-aggregate-full-run
-slice-aggregate-full-run c = search needs
-
-full-run-requires : tie.Need-full-run-requires
-full-run-requires c κs = search needs
-
 add-result : tie.Need-add-result
 add-result c = let r = c .before .before .before in record { fits = omega (arith, table-fits _ _ _ _ _ _ _ _ _ (r .full-run .ensures .0)) }
-
-same-length : tie.Need-same-length
-same-length c = search needs
 
 returns : tie.Need-returns
 returns c =
@@ -27,14 +15,8 @@ returns c =
     let s = r .before .before .before .before .before .before in
     table-short _ _ _ _ _ _ _ (s .args .work .now) (s .args .verdicts .now) (r .before .before .if1 .taken) _ (r .full-run .ensures .0) _ (r .full-run .ensures .1)
 
-full-run-requires-2 : tie.Need-full-run-requires-2
-full-run-requires-2 c κs = search needs
-
 add-result-2 : tie.Need-add-result-2
 add-result-2 c = let r = c .before .before .before in record { fits = omega (arith, table-fits _ _ _ _ _ _ _ _ _ (r .full-run2 .ensures .0)) }
-
-same-length-2 : tie.Need-same-length-2
-same-length-2 c = search needs
 
 returns-2 : tie.Need-returns-2
 returns-2 c =
@@ -48,20 +30,11 @@ put-steps-requires c κs =
     let k = table-known _ _ _ _ _ _ _ _ _ (r .full-run2 .ensures .0) (c .before .before .if2 .left) in
     (k .0, r .before .before .if1 .left, k .1)
 
-rejected-count-requires : tie.Need-rejected-count-requires
-rejected-count-requires c κs = search needs
-
 cast-result : tie.Need-cast-result
 cast-result c =
     let e = c .before .before .before .before .before .before in
     let k = table-known _ _ _ _ _ _ _ _ _ (e .before .before .before .full-run2 .ensures .0) (e .if2 .left) in
     record { fits = count-fits _ _ _ (c .rejected-count .ensures) (omega (arith, k .0)) }
-
-same-length-3 : tie.Need-same-length-3
-same-length-3 c = search needs
-
-same-length-4 : tie.Need-same-length-4
-same-length-4 c = search needs
 
 returns-3 : tie.Need-returns-3
 returns-3 c =
@@ -75,19 +48,19 @@ pub table-verdicts-spec : {M : Type 1} → statement M
 table-verdicts-spec =
     tie.close
     (tie.spec
-    slice-relend-prefix-full-run
-    slice-aggregate-full-run
-    full-run-requires
+    (λ c. search needs)
+    (λ c. search needs)
+    (λ c κs. search needs)
     add-result
-    same-length
+    (λ c. search needs)
     returns
-    full-run-requires-2
+    (λ c κs. search needs)
     add-result-2
-    same-length-2
+    (λ c. search needs)
     returns-2
     put-steps-requires
-    rejected-count-requires
+    (λ c κs. search needs)
     cast-result
-    same-length-3
-    same-length-4
+    (λ c. search needs)
+    (λ c. search needs)
     returns-3)

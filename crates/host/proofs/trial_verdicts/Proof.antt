@@ -6,9 +6,6 @@ use Rattle.host.proofs.Files.{file-fits, file-known, file-refused, file
 use Rattle.host.proofs.trial_verdicts.Statement.{statement}
 use Rattle.host.proofs.trial_verdicts.Tie as tie
 
-file-run-requires : tie.Need-file-run-requires
-file-run-requires c κs = search needs
-
 add-result : tie.Need-add-result
 add-result c = let r = c .before .before in record { fits = omega (arith, file-fits _ _ (r .file-run .ensures)) }
 
@@ -25,17 +22,11 @@ put-steps-requires c κs =
     let k = file-known _ _ (r .file-run .ensures) (e .before .before .if1 .left) in
     (omega (arith, k .0), e .if2 .left, k .1)
 
-rejected-count-requires : tie.Need-rejected-count-requires
-rejected-count-requires c κs = search needs
-
 cast-result : tie.Need-cast-result
 cast-result c =
     let e = c .before .before .before .before .before .before in
     let k = file-known _ _ (e .before .before .before .before .file-run .ensures) (e .before .before .if1 .left) in
     record { fits = count-fits _ _ _ (c .rejected-count .ensures) (omega (arith, k .0)) }
-
-same-length : tie.Need-same-length
-same-length c = search needs
 
 returns-3 : tie.Need-returns-3
 returns-3 c =
@@ -48,12 +39,12 @@ pub trial-verdicts-spec : {M : Type 1} → statement M
 trial-verdicts-spec =
     tie.close
     (tie.spec
-    file-run-requires
+    (λ c κs. search needs)
     add-result
     returns
     returns-2
     put-steps-requires
-    rejected-count-requires
+    (λ c κs. search needs)
     cast-result
-    same-length
+    (λ c. search needs)
     returns-3)

@@ -8,8 +8,6 @@ use Rattle.order.specs.Order.{finite}
 use Rattle.order.proofs.Booleans.{T-true, never}
 use Rattle.order.proofs.is_finite.Statement.{statement}
 use Rattle.order.proofs.is_finite.Tie as tie
-use Rattle.order.proofs.is_finite.Reads as reads
-use Rattle.order.proofs.is_finite.Lts as lts
 
 below-top : (x : Float) → T (fits binary64 x) → lt x (inf false) ≡ true → lt (inf true) x ≡ finite x
 unfolding lt finite

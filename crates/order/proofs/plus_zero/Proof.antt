@@ -12,8 +12,6 @@ use Rattle.order.specs.Order.{plusZero, withPlusZero}
 use Rattle.order.proofs.Booleans.{never, true-T, and-left, and-both, or-right}
 use Rattle.order.proofs.plus_zero.Statement.{statement}
 use Rattle.order.proofs.plus_zero.Tie as tie
-use Rattle.order.proofs.plus_zero.Reads as reads
-use Rattle.order.proofs.plus_zero.Lts as lts
 
 is-zero : (x : Float) → eq x plusZero ≡ true → plusZero ≡ withPlusZero x
 unfolding eq withPlusZero

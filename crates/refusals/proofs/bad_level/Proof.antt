@@ -5,8 +5,6 @@ use borrow.Author.Tests.{le-leb, lt-leb, eq-eqb, ne-eqb}
 use mathlib.Core.Path.{refl}
 use Rattle.refusals.proofs.bad_level.Statement.{statement}
 use Rattle.refusals.proofs.bad_level.Tie as tie
-use Rattle.refusals.proofs.bad_level.Reads as reads
-use Rattle.refusals.proofs.bad_level.Lts as lts
 
 returns : tie.Need-returns
 unfolding badLevel

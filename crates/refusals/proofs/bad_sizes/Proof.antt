@@ -6,22 +6,13 @@ use borrow.Author.Needs.{needs}
 use Rattle.refusals.proofs.bad_sizes.Statement.{statement}
 use Rattle.refusals.proofs.bad_sizes.Tie as tie
 
-outside-requires : tie.Need-outside-requires
-outside-requires c κs = search needs
-
 returns : tie.Need-returns
 unfolding badSizes
 returns c = or-holds _ _ (sym (c .before .outside .ensures) ∙ c .if1 .taken)
 
-outside-requires-2 : tie.Need-outside-requires-2
-outside-requires-2 c κs = search needs
-
 returns-2 : tie.Need-returns-2
 unfolding badSizes
 returns-2 c = or-passes _ _ _ (sym (c .before .before .before .outside .ensures) ∙ c .before .before .if1 .left) (or-holds _ _ (sym (c .before .outside2 .ensures) ∙ c .if2 .taken))
-
-outside-requires-3 : tie.Need-outside-requires-3
-outside-requires-3 c κs = search needs
 
 returns-3 : tie.Need-returns-3
 unfolding badSizes
@@ -35,10 +26,10 @@ pub bad-sizes-spec : {M : Type 1} → statement M
 bad-sizes-spec =
     tie.close
     (tie.spec
-    outside-requires
+    (λ c κs. search needs)
     returns
-    outside-requires-2
+    (λ c κs. search needs)
     returns-2
-    outside-requires-3
+    (λ c κs. search needs)
     returns-3
     returns-4)

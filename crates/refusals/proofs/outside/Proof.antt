@@ -4,8 +4,6 @@ use borrow.Author.Tests.{lt-ltb, le-ltb}
 use mathlib.Core.Path.{refl}
 use Rattle.refusals.proofs.outside.Statement.{statement}
 use Rattle.refusals.proofs.outside.Tie as tie
-use Rattle.refusals.proofs.outside.Reads as reads
-use Rattle.refusals.proofs.outside.Lts as lts
 
 returns : tie.Need-returns
 returns c = or-holds _ _ (lt-ltb _ _ (c .if1 .taken))

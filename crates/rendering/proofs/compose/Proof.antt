@@ -6,18 +6,6 @@ use borrow.Author.Needs.{needs}
 use Rattle.rendering.proofs.compose.Statement.{statement}
 use Rattle.rendering.proofs.compose.Tie as tie
 
-slice-aggregate-numbered : tie.Need-slice-aggregate-numbered
-slice-aggregate-numbered c = search needs
-
-cast-numbered : tie.Need-cast-numbered
-cast-numbered c = search needs
-
-numbered-requires : tie.Need-numbered-requires
-numbered-requires c κs = search needs
-
-same-length : tie.Need-same-length
-same-length c = search needs
-
 returns : tie.Need-returns
 returns c = let n = c .before .before .numbered .ensures in (wrote-as _ (text-refused (c .before .before .before .before .before .before .before .before .args .f) (c .before .before .before .before .before .if1 .taken)) (n .0), omega (arith, n .1))
 
@@ -29,18 +17,6 @@ steps-requires c κs = let h = c .before .before .before .head in let s = c .bef
 
 offers-requires : tie.Need-offers-requires
 offers-requires c κs = let q = c .before .before .before .steps in let h = c .before .before .before .before .before .before .before .head in let s = c .before .before .before .before .before .before .before .before .before .before .before .before .before in let p = s .pre .1 (c .before .before .before .before .before .before .before .before .before .before .if1 .left) in (omega (arith, q .ensures .1, h .ensures .1), omega (arith, q .kept .0, h .kept .0, s .pre .0), p .offers-most, p .digits-few)
-
-rejected-count-requires : tie.Need-rejected-count-requires
-rejected-count-requires c κs = search needs
-
-slice-aggregate-numbered-2 : tie.Need-slice-aggregate-numbered-2
-slice-aggregate-numbered-2 c = search needs
-
-numbered-requires-2 : tie.Need-numbered-requires-2
-numbered-requires-2 c κs = search needs
-
-same-length-2 : tie.Need-same-length-2
-same-length-2 c = search needs
 
 returns-2 : tie.Need-returns-2
 returns-2 c =
@@ -55,16 +31,16 @@ pub compose-spec : {M : Type 1} → statement M
 compose-spec =
     tie.close
     (tie.spec
-    slice-aggregate-numbered
-    cast-numbered
-    numbered-requires
-    same-length
+    (λ c. search needs)
+    (λ c. search needs)
+    (λ c κs. search needs)
+    (λ c. search needs)
     returns
     head-requires
     steps-requires
     offers-requires
-    rejected-count-requires
-    slice-aggregate-numbered-2
-    numbered-requires-2
-    same-length-2
+    (λ c κs. search needs)
+    (λ c. search needs)
+    (λ c κs. search needs)
+    (λ c. search needs)
     returns-2)

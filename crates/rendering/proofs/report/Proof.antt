@@ -10,12 +10,6 @@ use borrow.Author.Needs.{needs}
 use Rattle.rendering.proofs.report.Statement.{statement}
 use Rattle.rendering.proofs.report.Tie as tie
 
-file-run-requires : tie.Need-file-run-requires
-file-run-requires c κs = search needs
-
-slice-aggregate-compose : tie.Need-slice-aggregate-compose
-slice-aggregate-compose c = search needs
-
 compose-requires : tie.Need-compose-requires
 compose-requires c κs = (omega arith, printable-file _ _ (c .before .file-run .ensures))
 
@@ -26,17 +20,11 @@ returns c =
     let a = c .before .before .before .before .before .before .before .args in
     render-short (a .file .now) (a .out .now) _ (text-length _ _ _ _ _ (f .ensures) (p .compose .ensures .0)) (c .if1 .taken)
 
-array-share-prefix-space : tie.Need-array-share-prefix-space
-array-share-prefix-space c = search needs
-
 slice-aggregate-put-all : tie.Need-slice-aggregate-put-all
 slice-aggregate-put-all c = let p = c .before .before .before .before .compose in sym (length-take-le _ (p .last .0) (omega (arith, p .ensures .1, p .kept .0)))
 
 put-all-requires : tie.Need-put-all-requires
 put-all-requires c κs = let p = c .before .before .before .before .compose in omega (arith, length-take-le (p .result) (p .last .0) (omega (arith, p .ensures .1, p .kept .0)), c .before .before .if1 .left)
-
-same-length : tie.Need-same-length
-same-length c = search needs
 
 returns-2 : tie.Need-returns-2
 returns-2 c =
@@ -51,12 +39,12 @@ pub report-spec : {M : Type 1} → statement M
 report-spec =
     tie.close
     (tie.spec
-    file-run-requires
-    slice-aggregate-compose
+    (λ c κs. search needs)
+    (λ c. search needs)
     compose-requires
     returns
-    array-share-prefix-space
+    (λ c. search needs)
     slice-aggregate-put-all
     put-all-requires
-    same-length
+    (λ c. search needs)
     returns-2)

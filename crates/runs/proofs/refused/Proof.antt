@@ -3,8 +3,6 @@ use lib.Ieee.{ofBits}
 use borrow.Author.Needs.{needs}
 use Rattle.runs.proofs.refused.Statement.{statement}
 use Rattle.runs.proofs.refused.Tie as tie
-use Rattle.runs.proofs.refused.Reads as reads
-use Rattle.runs.proofs.refused.Lts as lts
 
 returns : tie.Need-returns
 unfolding ofBits

@@ -5,8 +5,6 @@ use mathlib.Core.Path.{refl}
 use native.Mathlib.Omega.{arith}
 use Rattle.stepdown.proofs.allowance.Statement.{statement}
 use Rattle.stepdown.proofs.allowance.Tie as tie
-use Rattle.stepdown.proofs.allowance.Reads as reads
-use Rattle.stepdown.proofs.allowance.Lts as lts
 
 mul-result : tie.Need-mul-result
 mul-result c = record { fits = level-fits _ _ _ (c .pre .0) (c .pre .1) }

@@ -5,19 +5,6 @@ use mathlib.Core.Path.{sym, _∙_}
 use borrow.Author.Needs.{needs}
 use Rattle.stepdown.proofs.full_run.Statement.{statement}
 use Rattle.stepdown.proofs.full_run.Tie as tie
-use Rattle.stepdown.proofs.full_run.Reads as reads
-use Rattle.stepdown.proofs.full_run.Lts as lts
-use Rattle.critical.proofs.full_mask.Reads as full-mask-reads
-use Rattle.engine.proofs.full_run.Reads as full-run-reads
-use Rattle.runs.proofs.refused.Reads as refused-reads
-use Rattle.stepdown.proofs.allowance.Reads as allowance-reads
-use Rattle.stepdown.proofs.refusal.of_table.Reads as of-table-reads
-
-of-table-requires : tie.Need-of-table-requires
-of-table-requires c κs = search needs
-
-refused-requires : tie.Need-refused-requires
-refused-requires c κs = search needs
 
 returns : tie.Need-returns
 returns c = let o = c .before .before in let w = o .before .before .before .args .work .now in (full-refused _ _ _ _ _ _ _ w _ (o .of-table .ensures) _ (c .before .if1 .taken) (c .refused .ensures), full-work-kept _ _ _ _ _ _ _ w _ (o .of-table .ensures) (c .before .if1 .taken))
@@ -35,9 +22,6 @@ full-run-requires c κs =
     let acc = table-accepted _ _ _ _ _ _ _ _ z in
     (accepted-checked _ _ _ _ _ _ _ acc, made-rare _ _ _ _ _ _ _ acc _ (c .before .before .allowance .ensures), acc .seen, made-full _ _ (c .before .full-mask .ensures), table-room _ _ _ _ _ _ _ _ z)
 
-same-length : tie.Need-same-length
-same-length c = search needs
-
 returns-2 : tie.Need-returns-2
 returns-2 c =
     let f = c .before .before in
@@ -50,11 +34,11 @@ pub full-run-spec : {M : Type 1} → statement M
 full-run-spec =
     tie.close
     (tie.spec
-    of-table-requires
-    refused-requires
+    (λ c κs. search needs)
+    (λ c κs. search needs)
     returns
     allowance-requires
     full-mask-requires
     full-run-requires
-    same-length
+    (λ c. search needs)
     returns-2)

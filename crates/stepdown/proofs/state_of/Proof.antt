@@ -3,10 +3,6 @@ use Rattle.stepdown.proofs.Calls.{rows-pass, state-is}
 use Rattle.stepdown.proofs.Spoiled.{figures, figures-level}
 use Rattle.stepdown.proofs.state_of.Statement.{statement}
 use Rattle.stepdown.proofs.state_of.Tie as tie
-use Rattle.stepdown.proofs.state_of.Reads as reads
-use Rattle.stepdown.proofs.state_of.Lts as lts
-use Rattle.critical.proofs.full_mask.Reads as full-mask-reads
-use Rattle.stepdown.proofs.allowance.Reads as allowance-reads
 
 allowance-requires : tie.Need-allowance-requires
 allowance-requires c κs = (rows-pass _ _ _ (figures _ (c .pre) .shaped), figures-level _ (c .pre))

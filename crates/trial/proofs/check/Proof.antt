@@ -6,18 +6,6 @@ use Rattle.trial.proofs.Conditions.{refusal-figures, places-held, refus
 use Rattle.trial.proofs.check.Statement.{statement}
 use Rattle.trial.proofs.check.Tie as tie
 
-bad-counts-requires : tie.Need-bad-counts-requires
-bad-counts-requires c κs = search needs
-
-bad-level-requires : tie.Need-bad-level-requires
-bad-level-requires c κs = search needs
-
-first-of-requires : tie.Need-first-of-requires
-first-of-requires c κs = search needs
-
-first-of-requires-2 : tie.Need-first-of-requires-2
-first-of-requires-2 c κs = search needs
-
 returns : tie.Need-returns
 returns c =
     let l = c .before .before .before in
@@ -54,10 +42,10 @@ pub check-spec : {M : Type 1} → statement M
 check-spec =
     tie.close
     (tie.spec
-    bad-counts-requires
-    bad-level-requires
-    first-of-requires
-    first-of-requires-2
+    (λ c κs. search needs)
+    (λ c κs. search needs)
+    (λ c κs. search needs)
+    (λ c κs. search needs)
     returns
     offers-requires
     returns-2

@@ -4,9 +4,6 @@ use Rattle.trial.proofs.Calls.{known, size-refused, size-given}
 use Rattle.trial.proofs.size.Statement.{statement}
 use Rattle.trial.proofs.size.Tie as tie
 
-check-requires : tie.Need-check-requires
-check-requires c κs = search needs
-
 returns : tie.Need-returns
 returns c = size-refused _ _ (c .before .check .ensures) (c .if1 .taken)
 
@@ -17,4 +14,4 @@ returns-2 : tie.Need-returns-2
 returns-2 c = size-given _ _ (c .before .before .check .ensures) (c .before .if1 .left) _ (c .rows .ensures)
 
 pub size-spec : {M : Type 1} → statement M
-size-spec = tie.close (tie.spec check-requires returns rows-requires returns-2)
+size-spec = tie.close (tie.spec (λ c κs. search needs) returns rows-requires returns-2)

@@ -7,9 +7,6 @@ use Rattle.trial.proofs.Calls.{known, total-is, total-most, call-refuse
 use Rattle.trial.proofs.table.Statement.{statement}
 use Rattle.trial.proofs.table.Tie as tie
 
-check-requires : tie.Need-check-requires
-check-requires c κs = search needs
-
 returns : tie.Need-returns
 returns c = call-refused _ _ _ (c .before .check .ensures) (c .if1 .taken)
 
@@ -41,9 +38,6 @@ fill-requires c κs =
     let k = past (r .before) in
     (k .offers-some, k .offers-most, k .pairs-most, total-is (a .t) (r .rows .result) (r .rows .ensures), c .before .if2 .left)
 
-same-length : tie.Need-same-length
-same-length c = search needs
-
 returns-3 : tie.Need-returns-3
 returns-3 c =
     let f = c .before .before in
@@ -55,11 +49,11 @@ pub table-spec : {M : Type 1} → statement M
 table-spec =
     tie.close
     (tie.spec
-    check-requires
+    (λ c κs. search needs)
     returns
     rows-requires
     mul-total
     returns-2
     fill-requires
-    same-length
+    (λ c. search needs)
     returns-3)

@@ -4,21 +4,12 @@ use borrow.Author.Needs.{needs}
 use Rattle.trialfile.proofs.read.Statement.{statement}
 use Rattle.trialfile.proofs.read.Tie as tie
 
-judge-requires : tie.Need-judge-requires
-judge-requires c κs = search needs
-
-blank-trial-requires : tie.Need-blank-trial-requires
-blank-trial-requires c κs = search needs
-
 returns : tie.Need-returns
 returns c = refused _ _ _ (c .before .before .judge .ensures) (c .before .if1 .taken) (c .blank-trial .ensures)
-
-read-trial-requires : tie.Need-read-trial-requires
-read-trial-requires c κs = search needs
 
 returns-2 : tie.Need-returns-2
 returns-2 c = taken _ _ _ (c .before .before .judge .ensures) (c .before .if1 .left) (c .read-trial .ensures)
 
 pub read-spec : {M : Type 1} → statement M
 read-spec =
-    tie.close (tie.spec judge-requires blank-trial-requires returns read-trial-requires returns-2)
+    tie.close (tie.spec (λ c κs. search needs) (λ c κs. search needs) returns (λ c κs. search needs) returns-2)

@@ -5,32 +5,14 @@ use borrow.Author.Needs.{needs}
 use Rattle.trialfile.proofs.write.Statement.{statement}
 use Rattle.trialfile.proofs.write.Tie as tie
 
-check-requires : tie.Need-check-requires
-check-requires c κs = search needs
-
 returns : tie.Need-returns
 returns c = writing-refused _ _ _ (c .before .check .ensures) (c .if1 .taken)
-
-word-count-requires : tie.Need-word-count-requires
-word-count-requires c κs = search needs
-
-mul-if2 : tie.Need-mul-if2
-mul-if2 c = search needs
 
 returns-2 : tie.Need-returns-2
 returns-2 c =
     let a = c .before .before .before .before .before .args in
     let n = c .before .word-count in
     writing-short (a .t) (a .out .now) _ (c .before .before .before .check .ensures) (n .result) (c .before .before .if1 .left) (n .ensures .0) (omega arith)
-
-write-words-requires : tie.Need-write-words-requires
-write-words-requires c κs = search needs
-
-mul-t6 : tie.Need-mul-t6
-mul-t6 c = search needs
-
-same-length : tie.Need-same-length
-same-length c = search needs
 
 returns-3 : tie.Need-returns-3
 returns-3 c =
@@ -41,12 +23,12 @@ pub write-spec : {M : Type 1} → statement M
 write-spec =
     tie.close
     (tie.spec
-    check-requires
+    (λ c κs. search needs)
     returns
-    word-count-requires
-    mul-if2
+    (λ c κs. search needs)
+    (λ c. search needs)
     returns-2
-    write-words-requires
-    mul-t6
-    same-length
+    (λ c κs. search needs)
+    (λ c. search needs)
+    (λ c. search needs)
     returns-3)

@@ -6,18 +6,6 @@ use lib.Seq.{length-take-le}
 use borrow.Author.Needs.{needs}
 use Rattle.trialrun.proofs.full_run.Statement.{statement}
 use Rattle.trialrun.proofs.full_run.Tie as tie
-use Rattle.trialrun.proofs.full_run.Reads as reads
-use Rattle.trialrun.proofs.full_run.Lts as lts
-use Rattle.runs.proofs.refused.Reads as refused-reads
-use Rattle.stepdown.proofs.full_run.Reads as full-run-reads
-use Rattle.trial.proofs.size.Reads as size-reads
-use Rattle.trial.proofs.table.Reads as table-reads
-
-size-requires : tie.Need-size-requires
-size-requires c κs = search needs
-
-refused-requires : tie.Need-refused-requires
-refused-requires c κs = search needs
 
 returns : tie.Need-returns
 returns c = let s = c .before .before .before in let a = s .before .before .before .args in call-turned (a .t) _ (s .size .ensures) (a .table .now) (a .work .now) _ (c .before .if1 .taken) (c .refused .ensures)
@@ -25,35 +13,14 @@ returns c = let s = c .before .before .before in let a = s .before .before .befo
 mul-total : tie.Need-mul-total
 mul-total c = let s = c .before .before .before in let f = total-fits _ _ (s .size .ensures) (c .before .if1 .left) in record { fits = omega (arith, f) }
 
-refused-requires-2 : tie.Need-refused-requires-2
-refused-requires-2 c κs = search needs
-
 returns-2 : tie.Need-returns-2
 returns-2 c = let s = c .before .before .before .before .before in let a = s .before .before .before .args in call-short (a .t) _ (s .size .ensures) (a .table .now) (a .work .now) _ (c .before .before .before .if1 .left) (c .before .if2 .taken) (c .refused2 .ensures)
-
-refused-requires-3 : tie.Need-refused-requires-3
-refused-requires-3 c κs = search needs
 
 returns-3 : tie.Need-returns-3
 returns-3 c = let s = c .before .before .before .before .before .before .before in let a = s .before .before .before .args in call-cramped (a .t) _ (s .size .ensures) (a .table .now) (a .work .now) _ (c .before .before .before .before .before .if1 .left) (c .before .before .before .if2 .left) (c .before .if3 .taken) (c .refused3 .ensures)
 
-table-requires : tie.Need-table-requires
-table-requires c κs = search needs
-
-slice-reshare-prefix-full-run : tie.Need-slice-reshare-prefix-full-run
-slice-reshare-prefix-full-run c = search needs
-
 slice-aggregate-full-run : tie.Need-slice-aggregate-full-run
 slice-aggregate-full-run c = sym (length-take-le _ _ (omega (arith, c .before .before .before .table .kept .1 .0, c .before .before .before .before .before .before .before .if2 .left)))
-
-full-run-requires : tie.Need-full-run-requires
-full-run-requires c κs = search needs
-
-same-length : tie.Need-same-length
-same-length c = search needs
-
-same-length-2 : tie.Need-same-length-2
-same-length-2 c = search needs
 
 returns-4 : tie.Need-returns-4
 returns-4 c =
@@ -72,18 +39,18 @@ pub full-run-spec : {M : Type 1} → statement M
 full-run-spec =
     tie.close
     (tie.spec
-    size-requires
-    refused-requires
+    (λ c κs. search needs)
+    (λ c κs. search needs)
     returns
     mul-total
-    refused-requires-2
+    (λ c κs. search needs)
     returns-2
-    refused-requires-3
+    (λ c κs. search needs)
     returns-3
-    table-requires
-    slice-reshare-prefix-full-run
+    (λ c κs. search needs)
+    (λ c. search needs)
     slice-aggregate-full-run
-    full-run-requires
-    same-length
-    same-length-2
+    (λ c κs. search needs)
+    (λ c. search needs)
+    (λ c. search needs)
     returns-4)

@@ -8,9 +8,6 @@ use mathlib.Core.Path.{_≡_, refl, ap, _∙_}
 use borrow.Author.Needs.{needs}
 use Rattle.verdicts.proofs.rejected_count.Statement.{statement}
 use Rattle.verdicts.proofs.rejected_count.Tie as tie
-use Rattle.verdicts.proofs.rejected_count.Reads as reads
-use Rattle.verdicts.proofs.rejected_count.Lts as lts
-use Rattle.verdicts.proofs.tally.Reads as tally-reads
 
 abbrev Inv-loop : tie.InvT-loop
 Inv-loop n decisions total₀ i₀ total i = (i ≤ n) × (i ≤ 32) × (length decisions ≡ 32) × (total ≡ rejectedCount i decisions)
@@ -25,23 +22,8 @@ loop-holds c = (omega arith, omega arith, search needs, refl)
 returns : tie.Need-returns Inv-loop μ-loop
 returns c = let l = c .before .before .loop .inv in l .3 ∙ count-end _ _ _ (omega (arith, l .2, c .if1 .taken)) (l .0)
 
-mul-d : tie.Need-mul-d Inv-loop μ-loop
-mul-d c = search needs
-
-array-copy-out-d : tie.Need-array-copy-out-d Inv-loop μ-loop
-array-copy-out-d c = search needs
-
-tally-requires : tie.Need-tally-requires Inv-loop μ-loop
-tally-requires c κs = search needs
-
 add-total : tie.Need-add-total Inv-loop μ-loop
 add-total c = let l = c .before .before .before .before .loop .inv in record { fits = omega (arith, l .2, l .3, count-most (c .before .before .before .before .loop .i) (c .before .before .before .before .before .args .t1), c .tally .ensures .1) }
-
-add-i : tie.Need-add-i Inv-loop μ-loop
-add-i c = search needs
-
-loop-less : tie.Need-loop-less Inv-loop μ-loop
-loop-less c = search needs
 
 loop-again : tie.Need-loop-again Inv-loop μ-loop
 loop-again c = let t = c .before .before .before in let l = t .before .loop .inv in (omega (arith, t .loop-test .taken), omega (arith, l .1, c .before .before .if1 .left), l .2, ap (λ n. t .before .loop .total + n) (c .tally .ensures .0) ∙ count-on _ _ _ _ (omega arith) (l .3))
@@ -57,11 +39,11 @@ rejected-count-spec =
     μ-loop
     loop-holds
     returns
-    mul-d
-    array-copy-out-d
-    tally-requires
+    (λ c. search needs)
+    (λ c. search needs)
+    (λ c κs. search needs)
     add-total
-    add-i
-    loop-less
+    (λ c. search needs)
+    (λ c. search needs)
     loop-again
     returns-2)

@@ -14,15 +14,6 @@ returns-2 c = outside-is _ _ _ _ _ (λ _ s _. omega (arith, s, c .if2 .taken))
 returns-3 : tie.Need-returns-3
 returns-3 c = outside-is _ _ _ _ _ (λ _ _ l. omega (arith, l, c .if3 .taken))
 
-sub-if4 : tie.Need-sub-if4
-sub-if4 c = search needs
-
-sub-if4-2 : tie.Need-sub-if4-2
-sub-if4-2 c = search needs
-
-div-if4 : tie.Need-div-if4
-div-if4 c = search needs
-
 returns-4 : tie.Need-returns-4
 returns-4 c = outside-is _ _ _ _ _ (λ _ s l. omega (arith, l, lacks-place _ _ _ _ s (c .if4 .taken)))
 
@@ -50,9 +41,9 @@ entry-at-spec =
     returns
     returns-2
     returns-3
-    sub-if4
-    sub-if4-2
-    div-if4
+    (λ c. search needs)
+    (λ c. search needs)
+    (λ c. search needs)
     returns-4
     mul-at
     add-at

@@ -12,8 +12,6 @@ use mathlib.Core.Path.{_≡_}
 use borrow.Author.Needs.{needs}
 use Rattle.critical.proofs.counts.at_least.Statement.{statement}
 use Rattle.critical.proofs.counts.at_least.Tie as tie
-use Rattle.critical.proofs.counts.at_least.Reads as reads
-use Rattle.critical.proofs.counts.at_least.Lts as lts
 
 abbrev Inv-loop : tie.InvT-loop
 Inv-loop table rows columns k j v n₀ g₀ n g = (g ≤ rows) × CheckedTable table rows columns k × (j < columns) × (n ≤ g) × (n + reaching table rows columns g v j ≡ atLeast (rowsOf rows columns table) v j)
@@ -35,15 +33,6 @@ mul-if1 c = let l = c .before .loop .inv in let f = start-fits _ _ _ (l .1 .rows
 
 shared-slice-read-if1 : tie.Need-shared-slice-read-if1 Inv-loop μ-loop
 shared-slice-read-if1 c = let l = c .before .before .loop .inv in let a = c .before .before .before .args in omega (arith, part-rows (a .rows) (a .columns) (c .before .before .loop .g) (c .before .loop-test .taken), l .1 .full, l .2)
-
-add-n : tie.Need-add-n Inv-loop μ-loop
-add-n c = search needs
-
-add-g : tie.Need-add-g Inv-loop μ-loop
-add-g c = search needs
-
-loop-less : tie.Need-loop-less Inv-loop μ-loop
-loop-less c = search needs
 
 loop-again : tie.Need-loop-again Inv-loop μ-loop
 loop-again c =
@@ -68,8 +57,8 @@ at-least-spec =
     add-at
     mul-if1
     shared-slice-read-if1
-    add-n
-    add-g
-    loop-less
+    (λ c. search needs)
+    (λ c. search needs)
+    (λ c. search needs)
     loop-again
     returns)

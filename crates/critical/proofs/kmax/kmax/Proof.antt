@@ -13,11 +13,6 @@ use Prim.Native.Nat.{_≤_, _<_, _-_}
 use borrow.Author.Needs.{needs}
 use Rattle.critical.proofs.kmax.kmax.Statement.{statement}
 use Rattle.critical.proofs.kmax.kmax.Tie as tie
-use Rattle.critical.proofs.kmax.kmax.Reads as reads
-use Rattle.critical.proofs.kmax.kmax.Lts as lts
-use Rattle.order.proofs.plus_zero.Reads as plus-zero-reads
-use Rattle.critical.proofs.kmax.nth_of.Reads as nth-of-reads
-use Rattle.critical.proofs.kmax.push.Reads as push-reads
 
 abbrev Inv-loop : tie.InvT-loop
 Inv-loop row set k low t₀ s₀ i₀ t s i = (i ≤ length row) × T (all finite row) × (0 < k) × (k ≤ 4) × (k ≤ size (columnsOf (length row) set)) × Top4 (toCome row 0 set) (toCome row i s) t
@@ -29,27 +24,9 @@ float-from-bits-low : tie.Need-float-from-bits-low Inv-loop μ-loop
 unfolding nanBits
 float-from-bits-low c = search needs
 
-top-of-requires : tie.Need-top-of-requires Inv-loop μ-loop
-top-of-requires c κs = search needs
-
 loop-holds : tie.Need-loop-holds Inv-loop μ-loop
 unfolding ofBits
 loop-holds c = let p = c .before .before .pre in (omega arith, p .0, p .1, p .2, p .3, top-start _ _ (c .top-of .ensures))
-
-mul-push : tie.Need-mul-push Inv-loop μ-loop
-mul-push c = search needs
-
-shared-slice-read-push : tie.Need-shared-slice-read-push Inv-loop μ-loop
-shared-slice-read-push c = search needs
-
-push-requires : tie.Need-push-requires Inv-loop μ-loop
-push-requires c κs = search needs
-
-add-i : tie.Need-add-i Inv-loop μ-loop
-add-i c = search needs
-
-loop-less : tie.Need-loop-less Inv-loop μ-loop
-loop-less c = search needs
 
 loop-again : tie.Need-loop-again Inv-loop μ-loop
 loop-again c =
@@ -65,12 +42,6 @@ loop-again c =
           (c .if1 .came),
     )
 
-nth-of-requires : tie.Need-nth-of-requires Inv-loop μ-loop
-nth-of-requires c κs = search needs
-
-plus-zero-requires : tie.Need-plus-zero-requires Inv-loop μ-loop
-plus-zero-requires c κs = search needs
-
 returns : tie.Need-returns Inv-loop μ-loop
 returns c =
     let l = c .before .before .before .loop .inv in
@@ -83,14 +54,14 @@ kmax-spec =
     Inv-loop
     μ-loop
     float-from-bits-low
-    top-of-requires
+    (λ c κs. search needs)
     loop-holds
-    mul-push
-    shared-slice-read-push
-    push-requires
-    add-i
-    loop-less
+    (λ c. search needs)
+    (λ c. search needs)
+    (λ c κs. search needs)
+    (λ c. search needs)
+    (λ c. search needs)
     loop-again
-    nth-of-requires
-    plus-zero-requires
+    (λ c κs. search needs)
+    (λ c κs. search needs)
     returns)

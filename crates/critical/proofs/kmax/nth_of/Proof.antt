@@ -3,8 +3,6 @@ use Rattle.critical.specs.Internal.{nth}
 use borrow.Author.Tests.{eq-eqb, ne-eqb}
 use Rattle.critical.proofs.kmax.nth_of.Statement.{statement}
 use Rattle.critical.proofs.kmax.nth_of.Tie as tie
-use Rattle.critical.proofs.kmax.nth_of.Reads as reads
-use Rattle.critical.proofs.kmax.nth_of.Lts as lts
 
 returns : tie.Need-returns
 unfolding nth

@@ -5,17 +5,11 @@ use borrow.Author.Needs.{needs}
 use Rattle.critical.proofs.kmax.push.Statement.{statement}
 use Rattle.critical.proofs.kmax.push.Tie as tie
 
-top-of-requires : tie.Need-top-of-requires
-top-of-requires c κs = search needs
-
 returns : tie.Need-returns
 unfolding pushed
 returns c =
     let a = c .before in
     c .top-of .ensures ∙ simp (a .before .before .before .before .before .before .if1 .taken, a .before .before .before .before .if2 .taken, a .before .before .if3 .taken, a .if4 .taken)
-
-top-of-requires-2 : tie.Need-top-of-requires-2
-top-of-requires-2 c κs = search needs
 
 returns-2 : tie.Need-returns-2
 unfolding pushed
@@ -23,17 +17,11 @@ returns-2 c =
     let a = c .before in
     c .top-of2 .ensures ∙ simp (a .before .before .before .before .before .before .if1 .taken, a .before .before .before .before .if2 .taken, a .before .before .if3 .taken, a .if4 .left)
 
-top-of-requires-3 : tie.Need-top-of-requires-3
-top-of-requires-3 c κs = search needs
-
 returns-3 : tie.Need-returns-3
 unfolding pushed
 returns-3 c =
     let b = c .before in
     c .top-of3 .ensures ∙ simp (b .before .before .before .before .if1 .taken, b .before .before .if2 .taken, b .if3 .left)
-
-top-of-requires-4 : tie.Need-top-of-requires-4
-top-of-requires-4 c κs = search needs
 
 returns-4 : tie.Need-returns-4
 unfolding pushed
@@ -47,12 +35,12 @@ pub push-spec : {M : Type 1} → statement M
 push-spec =
     tie.close
     (tie.spec
-    top-of-requires
+    (λ c κs. search needs)
     returns
-    top-of-requires-2
+    (λ c κs. search needs)
     returns-2
-    top-of-requires-3
+    (λ c κs. search needs)
     returns-3
-    top-of-requires-4
+    (λ c κs. search needs)
     returns-4
     returns-5)

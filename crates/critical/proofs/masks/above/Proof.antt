@@ -9,10 +9,6 @@ use mathlib.Core.Path.{_≡_, sym, _∙_}
 use borrow.Author.Needs.{needs}
 use Rattle.critical.proofs.masks.above.Statement.{statement}
 use Rattle.critical.proofs.masks.above.Tie as tie
-use Rattle.critical.proofs.masks.above.Reads as reads
-use Rattle.critical.proofs.masks.above.Lts as lts
-use Rattle.critical.proofs.masks.bit.Reads as bit-reads
-use Rattle.critical.proofs.masks.lowest_over.Reads as lowest-over-reads
 
 abbrev Inv-loop : tie.InvT-loop
 Inv-loop row set v m₀ s₀ i₀ m s i = (i ≤ length row) × (length row ≤ 32) × (m < 2 ^ i) × (m + 2 ^ i * toMark row i s v ≡ maskOf (columnsOf (length row) set ∩ over v row))
@@ -23,26 +19,8 @@ abbrev μ-loop : tie.MeasureT-loop
 loop-holds : tie.Need-loop-holds Inv-loop μ-loop
 loop-holds c = (omega arith, c .before .pre, omega arith, mark-start _ _ _)
 
-mul-lowest-over : tie.Need-mul-lowest-over Inv-loop μ-loop
-mul-lowest-over c = search needs
-
-shared-slice-read-lowest-over : tie.Need-shared-slice-read-lowest-over Inv-loop μ-loop
-shared-slice-read-lowest-over c = search needs
-
-lowest-over-requires : tie.Need-lowest-over-requires Inv-loop μ-loop
-lowest-over-requires c κs = search needs
-
-bit-requires : tie.Need-bit-requires Inv-loop μ-loop
-bit-requires c κs = search needs
-
 add-m : tie.Need-add-m Inv-loop μ-loop
 add-m c = let t = c .before .before .before .before in let l = t .before .loop .inv in record { fits = mark-fits _ _ _ _ (t .loop-test .taken) (l .1) (l .2) (c .bit .ensures) }
-
-add-i : tie.Need-add-i Inv-loop μ-loop
-add-i c = search needs
-
-loop-less : tie.Need-loop-less Inv-loop μ-loop
-loop-less c = search needs
 
 loop-again : tie.Need-loop-again Inv-loop μ-loop
 loop-again c =
@@ -63,12 +41,12 @@ above-spec =
     Inv-loop
     μ-loop
     loop-holds
-    mul-lowest-over
-    shared-slice-read-lowest-over
-    lowest-over-requires
-    bit-requires
+    (λ c. search needs)
+    (λ c. search needs)
+    (λ c κs. search needs)
+    (λ c κs. search needs)
     add-m
-    add-i
-    loop-less
+    (λ c. search needs)
+    (λ c. search needs)
     loop-again
     returns)

@@ -7,15 +7,9 @@ use mathlib.Core.Path.{ap}
 use borrow.Author.Needs.{needs}
 use Rattle.critical.proofs.masks.full_mask.Statement.{statement}
 use Rattle.critical.proofs.masks.full_mask.Tie as tie
-use Rattle.critical.proofs.masks.full_mask.Reads as reads
-use Rattle.critical.proofs.masks.full_mask.Lts as lts
-use Rattle.critical.proofs.masks.bit.Reads as bit-reads
 
 returns : tie.Need-returns
 returns c = full-32 _ (c .if1 .taken)
-
-bit-requires : tie.Need-bit-requires
-bit-requires c κs = search needs
 
 sub-result : tie.Need-sub-result
 sub-result c = omega (arith, c .bit .ensures, pow-pos (c .before .before .args .cols))
@@ -24,4 +18,4 @@ returns-2 : tie.Need-returns-2
 returns-2 c = ap (λ n. n - 1) (c .bit .ensures)
 
 pub full-mask-spec : {M : Type 1} → statement M
-full-mask-spec = tie.close (tie.spec returns bit-requires sub-result returns-2)
+full-mask-spec = tie.close (tie.spec returns (λ c κs. search needs) sub-result returns-2)

@@ -2,8 +2,6 @@
 use borrow.Author.Tests.{eq-eqb, ne-eqb}
 use Rattle.critical.proofs.masks.lowest_over.Statement.{statement}
 use Rattle.critical.proofs.masks.lowest_over.Tie as tie
-use Rattle.critical.proofs.masks.lowest_over.Reads as reads
-use Rattle.critical.proofs.masks.lowest_over.Lts as lts
 
 returns : tie.Need-returns
 returns c = simp (eq-eqb _ _ (c .if1 .taken))

@@ -8,8 +8,6 @@ use mathlib.Core.Path.{_≡_}
 use borrow.Author.Needs.{needs}
 use Rattle.critical.proofs.masks.size_of.Statement.{statement}
 use Rattle.critical.proofs.masks.size_of.Tie as tie
-use Rattle.critical.proofs.masks.size_of.Reads as reads
-use Rattle.critical.proofs.masks.size_of.Lts as lts
 
 abbrev Inv-loop : tie.InvT-loop
 Inv-loop cols set n₀ s₀ i₀ n s i = (i ≤ cols) × (n ≤ i) × (n + size (columnsOf (cols - i) s) ≡ size (columnsOf cols set))
@@ -19,15 +17,6 @@ abbrev μ-loop : tie.MeasureT-loop
 
 loop-holds : tie.Need-loop-holds Inv-loop μ-loop
 loop-holds c = (omega arith, omega arith, size-start _ _)
-
-add-n : tie.Need-add-n Inv-loop μ-loop
-add-n c = search needs
-
-add-i : tie.Need-add-i Inv-loop μ-loop
-add-i c = search needs
-
-loop-less : tie.Need-loop-less Inv-loop μ-loop
-loop-less c = search needs
 
 loop-again : tie.Need-loop-again Inv-loop μ-loop
 loop-again c =
@@ -42,4 +31,4 @@ returns c = size-done _ _ _ _ _ (c .loop-test .left) (c .before .loop .inv .2)
 
 pub size-of-spec : {M : Type 1} → statement M
 size-of-spec =
-    tie.close (tie.spec Inv-loop μ-loop loop-holds add-n add-i loop-less loop-again returns)
+    tie.close (tie.spec Inv-loop μ-loop loop-holds (λ c. search needs) (λ c. search needs) (λ c. search needs) loop-again returns)

@@ -4,22 +4,10 @@ use lib.Ieee.{nanBits, ofBits}
 use borrow.Author.Needs.{needs}
 use Rattle.critical.proofs.putback.put_back.Statement.{statement}
 use Rattle.critical.proofs.putback.put_back.Tie as tie
-use Rattle.critical.proofs.putback.put_back.Reads as reads
-use Rattle.critical.proofs.putback.put_back.Lts as lts
-use Rattle.critical.proofs.putback.walk.Reads as walk-reads
-
-sub-walk : tie.Need-sub-walk
-sub-walk c = search needs
 
 float-from-bits-low : tie.Need-float-from-bits-low
 unfolding nanBits
 float-from-bits-low c = search needs
-
-walk-requires : tie.Need-walk-requires
-walk-requires c κs = search needs
-
-same-length : tie.Need-same-length
-same-length c = search needs
 
 returns : tie.Need-returns
 unfolding ofBits
@@ -27,4 +15,4 @@ returns c = let w = c .before .before in let q = w .before .before .before .befo
 
 pub put-back-spec : {M : Type 1} → statement M
 put-back-spec =
-    tie.close (tie.spec float-from-bits-low sub-walk walk-requires same-length returns)
+    tie.close (tie.spec float-from-bits-low (λ c. search needs) (λ c κs. search needs) (λ c. search needs) returns)

@@ -14,9 +14,6 @@ use mathlib.Core.List.{[]}
 use borrow.Author.Needs.{needs}
 use Rattle.critical.proofs.quantile.fill.Statement.{statement}
 use Rattle.critical.proofs.quantile.fill.Tie as tie
-use Rattle.critical.proofs.quantile.fill.Reads as reads
-use Rattle.critical.proofs.quantile.fill.Lts as lts
-use Rattle.critical.proofs.kmax.kmax.Reads as kmax-reads
 
 abbrev Inv-loop : tie.InvT-loop
 Inv-loop table work₀ rows cols k set g₀ work g = (g ≤ rows) × CheckedTable table rows cols k × (rows ≤ length work₀) × (k ≤ size (columnsOf cols set)) × (length work ≡ length work₀) × (work ≡ filled (λ row. kMax k (columnsOf cols set) row) (rowsOf rows cols table) g work₀)
@@ -36,37 +33,16 @@ add-e c = let l = c .before .loop .inv in let f = start-fits _ _ _ (l .1 .rows-m
 mul-kmax : tie.Need-mul-kmax Inv-loop μ-loop
 mul-kmax c = let l = c .before .loop .inv in let f = start-fits _ _ _ (l .1 .rows-most) (l .1 .cols-most) (c .loop-test .taken) in omega (arith, f)
 
-sub-kmax : tie.Need-sub-kmax Inv-loop μ-loop
-sub-kmax c = search needs
-
-part-kmax-start : tie.Need-part-kmax-start Inv-loop μ-loop
-part-kmax-start c = search needs
-
 part-kmax-end : tie.Need-part-kmax-end Inv-loop μ-loop
 part-kmax-end c = let a = c .before .before .before .before .args in omega (arith, part-rows (a .rows) (a .cols) (c .before .loop .g) (c .loop-test .taken), c .before .loop .inv .1 .full)
 
 kmax-requires : tie.Need-kmax-requires Inv-loop μ-loop
 kmax-requires c κs = let l = c .before .before .loop .inv in (part-finite _ _ _ _ _ (l .1) (c .before .loop-test .taken), l .1 .k-some, l .1 .k-most, row-held _ _ _ _ _ _ (l .1) (c .before .loop-test .taken) (l .3))
 
-mul-work : tie.Need-mul-work Inv-loop μ-loop
-mul-work c = search needs
-
-slice-write-work : tie.Need-slice-write-work Inv-loop μ-loop
-slice-write-work c = search needs
-
-add-g : tie.Need-add-g Inv-loop μ-loop
-add-g c = search needs
-
-loop-less : tie.Need-loop-less Inv-loop μ-loop
-loop-less c = search needs
-
 loop-again : tie.Need-loop-again Inv-loop μ-loop
 loop-again c =
     let l = c .before .before .before .loop .inv in
     (omega arith, l .1, l .2, l .3, simp length-set (l .4), row-turn _ _ _ _ _ _ (l .1) (c .before .before .loop-test .taken) _ _ (l .2) (l .5) (c .kmax .ensures))
-
-same-length : tie.Need-same-length Inv-loop μ-loop
-same-length c = search needs
 
 returns : tie.Need-returns Inv-loop μ-loop
 returns c = let l = c .before .loop .inv in rows-end _ _ _ _ _ _ _ _ (c .loop-test .left) (l .0) (l .5)
@@ -81,14 +57,14 @@ fill-spec =
     mul-a
     add-e
     mul-kmax
-    sub-kmax
-    part-kmax-start
+    (λ c. search needs)
+    (λ c. search needs)
     part-kmax-end
     kmax-requires
-    mul-work
-    slice-write-work
-    add-g
-    loop-less
+    (λ c. search needs)
+    (λ c. search needs)
+    (λ c. search needs)
+    (λ c. search needs)
     loop-again
-    same-length
+    (λ c. search needs)
     returns)

@@ -11,36 +11,12 @@ use mathlib.Core.Path.{_≡_, sym, _∙_}
 use borrow.Author.Needs.{needs}
 use Rattle.critical.proofs.smallest.count_between.Statement.{statement}
 use Rattle.critical.proofs.smallest.count_between.Tie as tie
-use Rattle.critical.proofs.smallest.count_between.Reads as reads
-use Rattle.critical.proofs.smallest.count_between.Lts as lts
-use Rattle.critical.proofs.smallest.inside.Reads as inside-reads
 
 abbrev Inv-loop : tie.InvT-loop
 Inv-loop xs lo hi n₀ i₀ n i = (i ≤ length xs) × (n + count (between lo hi) (drop i xs) ≡ count (between lo hi) xs) × (n ≤ i)
 
 abbrev μ-loop : tie.MeasureT-loop
 μ-loop xs lo hi n₀ i₀ n i = length xs - i
-
-loop-holds : tie.Need-loop-holds Inv-loop μ-loop
-loop-holds c = search needs
-
-mul-inside : tie.Need-mul-inside Inv-loop μ-loop
-mul-inside c = search needs
-
-shared-slice-read-inside : tie.Need-shared-slice-read-inside Inv-loop μ-loop
-shared-slice-read-inside c = search needs
-
-inside-requires : tie.Need-inside-requires Inv-loop μ-loop
-inside-requires c κs = search needs
-
-add-n : tie.Need-add-n Inv-loop μ-loop
-add-n c = search needs
-
-add-i : tie.Need-add-i Inv-loop μ-loop
-add-i c = search needs
-
-loop-less : tie.Need-loop-less Inv-loop μ-loop
-loop-less c = search needs
 
 loop-again : tie.Need-loop-again Inv-loop μ-loop
 loop-again c =
@@ -60,12 +36,12 @@ count-between-spec =
     (tie.spec
     Inv-loop
     μ-loop
-    loop-holds
-    mul-inside
-    shared-slice-read-inside
-    inside-requires
-    add-n
-    add-i
-    loop-less
+    (λ c. search needs)
+    (λ c. search needs)
+    (λ c. search needs)
+    (λ c κs. search needs)
+    (λ c. search needs)
+    (λ c. search needs)
+    (λ c. search needs)
     loop-again
     returns)

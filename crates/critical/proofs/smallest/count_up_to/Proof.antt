@@ -11,32 +11,12 @@ use mathlib.Core.Path.{_≡_}
 use borrow.Author.Needs.{needs}
 use Rattle.critical.proofs.smallest.count_up_to.Statement.{statement}
 use Rattle.critical.proofs.smallest.count_up_to.Tie as tie
-use Rattle.critical.proofs.smallest.count_up_to.Reads as reads
-use Rattle.critical.proofs.smallest.count_up_to.Lts as lts
 
 abbrev Inv-loop : tie.InvT-loop
 Inv-loop xs v n₀ i₀ n i = (i ≤ length xs) × (n + count (λ x. atMost x v) (drop i xs) ≡ count (λ x. atMost x v) xs) × (n ≤ i)
 
 abbrev μ-loop : tie.MeasureT-loop
 μ-loop xs v n₀ i₀ n i = length xs - i
-
-loop-holds : tie.Need-loop-holds Inv-loop μ-loop
-loop-holds c = search needs
-
-mul-if1 : tie.Need-mul-if1 Inv-loop μ-loop
-mul-if1 c = search needs
-
-shared-slice-read-if1 : tie.Need-shared-slice-read-if1 Inv-loop μ-loop
-shared-slice-read-if1 c = search needs
-
-add-n : tie.Need-add-n Inv-loop μ-loop
-add-n c = search needs
-
-add-i : tie.Need-add-i Inv-loop μ-loop
-add-i c = search needs
-
-loop-less : tie.Need-loop-less Inv-loop μ-loop
-loop-less c = search needs
 
 loop-again : tie.Need-loop-again Inv-loop μ-loop
 loop-again c =
@@ -56,11 +36,11 @@ count-up-to-spec =
     (tie.spec
     Inv-loop
     μ-loop
-    loop-holds
-    mul-if1
-    shared-slice-read-if1
-    add-n
-    add-i
-    loop-less
+    (λ c. search needs)
+    (λ c. search needs)
+    (λ c. search needs)
+    (λ c. search needs)
+    (λ c. search needs)
+    (λ c. search needs)
     loop-again
     returns)

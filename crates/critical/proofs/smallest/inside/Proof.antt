@@ -1,8 +1,6 @@
 -- `inside` meets its contract.
 use Rattle.critical.proofs.smallest.inside.Statement.{statement}
 use Rattle.critical.proofs.smallest.inside.Tie as tie
-use Rattle.critical.proofs.smallest.inside.Reads as reads
-use Rattle.critical.proofs.smallest.inside.Lts as lts
 
 returns : tie.Need-returns
 returns c = simp (c .if1 .taken)

@@ -12,12 +12,6 @@ use mathlib.Core.Path.{_≡_, sym, _∙_}
 use borrow.Author.Needs.{needs}
 use Rattle.critical.proofs.smallest.mth_smallest.Statement.{statement}
 use Rattle.critical.proofs.smallest.mth_smallest.Tie as tie
-use Rattle.critical.proofs.smallest.mth_smallest.Reads as reads
-use Rattle.critical.proofs.smallest.mth_smallest.Lts as lts
-use Rattle.order.proofs.plus_zero.Reads as plus-zero-reads
-use Rattle.critical.proofs.smallest.count_between.Reads as count-between-reads
-use Rattle.critical.proofs.smallest.count_up_to.Reads as count-up-to-reads
-use Rattle.critical.proofs.smallest.pick.Reads as pick-reads
 
 abbrev Inv-loop : tie.InvT-loop
 Inv-loop xs m lo₀ hi₀ n₀ lo hi n = T (all finite xs) × (0 < m) × (m ≤ length xs) × Around xs m lo hi n
@@ -33,27 +27,12 @@ float-from-bits-hi : tie.Need-float-from-bits-hi Inv-loop μ-loop
 unfolding nanBits
 float-from-bits-hi c = search needs
 
-count-between-requires : tie.Need-count-between-requires Inv-loop μ-loop
-count-between-requires c κs = search needs
-
 loop-holds : tie.Need-loop-holds Inv-loop μ-loop
 unfolding ofBits
 loop-holds c = (c .before .before .pre .0, c .before .before .pre .1, c .before .before .pre .2, around-start _ _ (c .before .before .pre .0) _ (c .before .before .pre .1) (c .before .before .pre .2) (c .count-between .ensures))
 
 pick-requires : tie.Need-pick-requires Inv-loop μ-loop
 pick-requires c κs = half-below _ _ _ _ _ (c .loop-test .taken) (c .before .loop .inv .3)
-
-mul-v : tie.Need-mul-v Inv-loop μ-loop
-mul-v c = search needs
-
-shared-slice-read-v : tie.Need-shared-slice-read-v Inv-loop μ-loop
-shared-slice-read-v c = search needs
-
-count-up-to-requires : tie.Need-count-up-to-requires Inv-loop μ-loop
-count-up-to-requires c κs = search needs
-
-count-between-requires-2 : tie.Need-count-between-requires-2 Inv-loop μ-loop
-count-between-requires-2 c κs = search needs
 
 loop-less : tie.Need-loop-less Inv-loop μ-loop
 loop-less c =
@@ -79,9 +58,6 @@ loop-again c =
           (c .before .if1 .came),
     )
 
-plus-zero-requires : tie.Need-plus-zero-requires Inv-loop μ-loop
-plus-zero-requires c κs = search needs
-
 returns : tie.Need-returns Inv-loop μ-loop
 returns c =
     let l = c .before .before .loop .inv in
@@ -96,14 +72,14 @@ mth-smallest-spec =
     μ-loop
     float-from-bits-lo
     float-from-bits-hi
-    count-between-requires
+    (λ c κs. search needs)
     loop-holds
     pick-requires
-    mul-v
-    shared-slice-read-v
-    count-up-to-requires
-    count-between-requires-2
+    (λ c. search needs)
+    (λ c. search needs)
+    (λ c κs. search needs)
+    (λ c κs. search needs)
     loop-less
     loop-again
-    plus-zero-requires
+    (λ c κs. search needs)
     returns)

@@ -11,9 +11,6 @@ use mathlib.Core.Path.{sym, _∙_}
 use borrow.Author.Needs.{needs}
 use Rattle.critical.proofs.smallest.pick.Statement.{statement}
 use Rattle.critical.proofs.smallest.pick.Tie as tie
-use Rattle.critical.proofs.smallest.pick.Reads as reads
-use Rattle.critical.proofs.smallest.pick.Lts as lts
-use Rattle.critical.proofs.smallest.inside.Reads as inside-reads
 
 abbrev Inv-loop : tie.InvT-loop
 Inv-loop xs lo hi skip left₀ i₀ left i = (i ≤ length xs) × (left < count (between lo hi) (drop i xs))
@@ -21,31 +18,10 @@ Inv-loop xs lo hi skip left₀ i₀ left i = (i ≤ length xs) × (left < count 
 abbrev μ-loop : tie.MeasureT-loop
 μ-loop xs lo hi skip left₀ i₀ left i = length xs - i
 
-loop-holds : tie.Need-loop-holds Inv-loop μ-loop
-loop-holds c = search needs
-
-mul-inside : tie.Need-mul-inside Inv-loop μ-loop
-mul-inside c = search needs
-
-shared-slice-read-inside : tie.Need-shared-slice-read-inside Inv-loop μ-loop
-shared-slice-read-inside c = search needs
-
-inside-requires : tie.Need-inside-requires Inv-loop μ-loop
-inside-requires c κs = search needs
-
 returns : tie.Need-returns Inv-loop μ-loop
 returns c =
     let t = c .before .before .before .before in
     (t .loop-test .taken, true-T (between _ _ _) (sym (c .before .before .inside .ensures) ∙ c .before .if1 .taken))
-
-sub-left : tie.Need-sub-left Inv-loop μ-loop
-sub-left c = search needs
-
-add-i : tie.Need-add-i Inv-loop μ-loop
-add-i c = search needs
-
-loop-less : tie.Need-loop-less Inv-loop μ-loop
-loop-less c = search needs
 
 loop-again : tie.Need-loop-again Inv-loop μ-loop
 loop-again c =
@@ -65,13 +41,13 @@ pick-spec =
     (tie.spec
     Inv-loop
     μ-loop
-    loop-holds
-    mul-inside
-    shared-slice-read-inside
-    inside-requires
+    (λ c. search needs)
+    (λ c. search needs)
+    (λ c. search needs)
+    (λ c κs. search needs)
     returns
-    sub-left
-    add-i
-    loop-less
+    (λ c. search needs)
+    (λ c. search needs)
+    (λ c. search needs)
     loop-again
     returns-2)

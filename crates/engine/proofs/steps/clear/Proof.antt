@@ -9,8 +9,6 @@ use mathlib.Core.Path.{_≡_}
 use borrow.Author.Needs.{needs}
 use Rattle.engine.proofs.steps.clear.Statement.{statement}
 use Rattle.engine.proofs.steps.clear.Tie as tie
-use Rattle.engine.proofs.steps.clear.Reads as reads
-use Rattle.engine.proofs.steps.clear.Lts as lts
 
 abbrev Inv-loop : tie.InvT-loop
 Inv-loop work₀ m i₀ work i = (i ≤ m) × (m ≤ length work₀) × (length work ≡ length work₀) × (work ≡ cleared i work₀)
@@ -18,27 +16,9 @@ Inv-loop work₀ m i₀ work i = (i ≤ m) × (m ≤ length work₀) × (length 
 abbrev μ-loop : tie.MeasureT-loop
 μ-loop work₀ m i₀ work i = m - i
 
-loop-holds : tie.Need-loop-holds Inv-loop μ-loop
-loop-holds c = search needs
-
-mul-work : tie.Need-mul-work Inv-loop μ-loop
-mul-work c = search needs
-
-slice-write-work : tie.Need-slice-write-work Inv-loop μ-loop
-slice-write-work c = search needs
-
-add-i : tie.Need-add-i Inv-loop μ-loop
-add-i c = search needs
-
-loop-less : tie.Need-loop-less Inv-loop μ-loop
-loop-less c = search needs
-
 loop-again : tie.Need-loop-again Inv-loop μ-loop
 unfolding ofBits
 loop-again c = let l = c .before .loop .inv in (omega arith, l .1, simp length-set (l .2), clear-turn _ _ _ (omega arith) (l .3))
-
-same-length : tie.Need-same-length Inv-loop μ-loop
-same-length c = search needs
 
 returns : tie.Need-returns Inv-loop μ-loop
 returns c = let l = c .before .loop .inv in clear-end _ _ _ _ (l .0) (c .loop-test .left) (l .3)
@@ -49,11 +29,11 @@ clear-spec =
     (tie.spec
     Inv-loop
     μ-loop
-    loop-holds
-    mul-work
-    slice-write-work
-    add-i
-    loop-less
+    (λ c. search needs)
+    (λ c. search needs)
+    (λ c. search needs)
+    (λ c. search needs)
+    (λ c. search needs)
     loop-again
-    same-length
+    (λ c. search needs)
     returns)

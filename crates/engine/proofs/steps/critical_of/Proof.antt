@@ -3,16 +3,9 @@ use Rattle.engine.proofs.OneStep.{rejected-under, critical-start, criti
 use borrow.Author.Needs.{needs}
 use Rattle.engine.proofs.steps.critical_of.Statement.{statement}
 use Rattle.engine.proofs.steps.critical_of.Tie as tie
-use Rattle.engine.proofs.steps.critical_of.Reads as reads
-use Rattle.engine.proofs.steps.critical_of.Lts as lts
-use Rattle.critical.proofs.put_back.Reads as put-back-reads
-use Rattle.critical.proofs.critical_value.Reads as critical-value-reads
 
 critical-value-requires : tie.Need-critical-value-requires
 critical-value-requires c κs = let q = c .before .before .before .before .before .pre in (q .0 .ready, q .1, q .0 .first (c .before .if1 .taken), q .0 .rare)
-
-same-length : tie.Need-same-length
-same-length c = search needs
 
 returns : tie.Need-returns
 returns c = let v = c .before .before in let q = v .before .before .before .before .before .before .pre in (critical-start _ _ (q .0) _ (v .before .before .if1 .taken) (v .critical-value .ensures .0), v .critical-value .ensures .1)
@@ -23,9 +16,6 @@ sub-put-back c = let q = c .before .before .before .before .before .before .pre 
 put-back-requires : tie.Need-put-back-requires
 put-back-requires c κs = let q = c .before .before .before .before .before .before .pre in (q .0 .ready, q .1, q .0 .rare, walk-start _ _ (q .0), put-held _ _ (q .0) (c .before .before .if1 .left))
 
-same-length-2 : tie.Need-same-length-2
-same-length-2 c = search needs
-
 returns-2 : tie.Need-returns-2
 returns-2 c = let v = c .before .before in let q = v .before .before .before .before .before .before .before .pre in (critical-next _ _ (q .0) _ (v .before .before .before .if1 .left) (v .put-back .ensures .0), v .put-back .ensures .1)
 
@@ -34,9 +24,9 @@ critical-of-spec =
     tie.close
     (tie.spec
     critical-value-requires
-    same-length
+    (λ c. search needs)
     returns
     sub-put-back
     put-back-requires
-    same-length-2
+    (λ c. search needs)
     returns-2)

@@ -3,15 +3,9 @@ use Rattle.engine.proofs.OneStep.{stops-none, stops-few, stops-full}
 use borrow.Author.Needs.{needs}
 use Rattle.engine.proofs.steps.ends.Statement.{statement}
 use Rattle.engine.proofs.steps.ends.Tie as tie
-use Rattle.engine.proofs.steps.ends.Reads as reads
-use Rattle.engine.proofs.steps.ends.Lts as lts
-use Rattle.critical.proofs.size_of.Reads as size-of-reads
 
 returns : tie.Need-returns
 returns c = stops-none _ _ _ _ _ (c .if1 .taken)
-
-size-of-requires : tie.Need-size-of-requires
-size-of-requires c κs = search needs
 
 returns-2 : tie.Need-returns-2
 returns-2 c = stops-few _ _ _ _ _ (c .before .before .if1 .left) _ (c .before .size-of .ensures) (c .if2 .taken)
@@ -20,4 +14,4 @@ returns-3 : tie.Need-returns-3
 returns-3 c = stops-full _ _ _ _ _ (c .before .before .if1 .left) _ (c .before .size-of .ensures) (c .if2 .left)
 
 pub ends-spec : {M : Type 1} → statement M
-ends-spec = tie.close (tie.spec returns size-of-requires returns-2 returns-3)
+ends-spec = tie.close (tie.spec returns (λ c κs. search needs) returns-2 returns-3)

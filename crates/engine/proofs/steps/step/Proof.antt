@@ -6,14 +6,6 @@ use native.Mathlib.Omega.{arith}
 use borrow.Author.Needs.{needs}
 use Rattle.engine.proofs.steps.step.Statement.{statement}
 use Rattle.engine.proofs.steps.step.Tie as tie
-use Rattle.engine.proofs.steps.step.Reads as reads
-use Rattle.engine.proofs.steps.step.Lts as lts
-use Rattle.critical.proofs.above.Reads as above-reads
-use Rattle.engine.proofs.steps.critical_of.Reads as critical-of-reads
-use Rattle.engine.proofs.steps.ends.Reads as ends-reads
-
-critical-of-requires : tie.Need-critical-of-requires
-critical-of-requires c κs = search needs
 
 mul-from : tie.Need-mul-from
 mul-from c = let g = c .before .before .before .before .before .before .before .pre .0 in let f = start-fits _ _ _ (g .ready .rows-most) (g .ready .cols-most) (g .seen) in omega (arith, f)
@@ -27,12 +19,6 @@ sub-remaining c = rejected-under _ _ (c .before .before .before .before .before 
 mul-above : tie.Need-mul-above
 mul-above c = let g = c .before .before .before .before .before .before .before .before .before .pre .0 in let f = start-fits _ _ _ (g .ready .rows-most) (g .ready .cols-most) (g .seen) in omega (arith, f)
 
-sub-above : tie.Need-sub-above
-sub-above c = search needs
-
-part-above-start : tie.Need-part-above-start
-part-above-start c = search needs
-
 part-above-end : tie.Need-part-above-end
 part-above-end c = let s = c .before .before .before .before .before .before .before .before .before in let g = s .pre .0 in let a = s .args .s in omega (arith, part-rows (a .rows) (a .columns) (a .observed) (g .seen), g .ready .full)
 
@@ -42,14 +28,8 @@ above-requires c κs = let g = c .before .before .before .before .before .before
 add-rejected : tie.Need-add-rejected
 add-rejected c = let s = c .before .before .before .before .before .before .before .before .before .before .before in let g = s .before .pre .0 in record { fits = mask-fits (g .ready .cols-most) (new-fits _ _ g _ (c .before .before .before .before .before .before .before .before .critical-of .ensures .0) _ (part-row _ _ _ _ _ (g .ready) (g .seen)) _ (c .before .above .ensures)) }
 
-ends-requires : tie.Need-ends-requires
-ends-requires c κs = search needs
-
 add-number : tie.Need-add-number
 add-number c = let g = c .before .before .before .before .before .before .before .before .before .before .before .before .before .before .pre .0 in omega (arith, g .steps-most)
-
-same-length : tie.Need-same-length
-same-length c = search needs
 
 returns : tie.Need-returns
 returns c =
@@ -61,17 +41,17 @@ pub step-spec : {M : Type 1} → statement M
 step-spec =
     tie.close
     (tie.spec
-    critical-of-requires
+    (λ c κs. search needs)
     mul-from
     add-to
     sub-remaining
     mul-above
-    sub-above
-    part-above-start
+    (λ c. search needs)
+    (λ c. search needs)
     part-above-end
     above-requires
     add-rejected
-    ends-requires
+    (λ c κs. search needs)
     add-number
-    same-length
+    (λ c. search needs)
     returns)

@@ -9,10 +9,6 @@ use mathlib.Core.Path.{_≡_, refl}
 use borrow.Author.Needs.{needs}
 use Rattle.engine.proofs.tracing.all_steps.Statement.{statement}
 use Rattle.engine.proofs.tracing.all_steps.Tie as tie
-use Rattle.engine.proofs.tracing.all_steps.Reads as reads
-use Rattle.engine.proofs.tracing.all_steps.Lts as lts
-use Rattle.engine.proofs.steps.step.Reads as step-reads
-use Rattle.engine.proofs.tracing.noted.Reads as noted-reads
 
 abbrev Inv-loop : tie.InvT-loop
 Inv-loop table work₀ t₀ state₀ i₀ work t state i = Followed table state₀ t state i × (state₀ .rows ≤ length work) × (length work ≡ length work₀) × (drop (state₀ .rows) work ≡ drop (state₀ .rows) work₀)
@@ -24,23 +20,11 @@ loop-holds : tie.Need-loop-holds Inv-loop μ-loop
 unfolding ofBits traceOf
 loop-holds c = let q = c .before .before .pre in (follow-start _ _ (q .0) (q .2), q .1, refl, refl)
 
-same-length : tie.Need-same-length Inv-loop μ-loop
-same-length c = search needs
-
 returns : tie.Need-returns Inv-loop μ-loop
 returns c = let l = c .before .before .loop .inv in (follow-end _ _ _ _ _ (l .0) (c .if1 .taken), l .3)
 
 step-requires : tie.Need-step-requires Inv-loop μ-loop
 step-requires c κs = let l = c .before .before .before .loop .inv in (l .0 .going (c .before .if1 .left), kept-room (l .0) (l .1))
-
-noted-requires : tie.Need-noted-requires Inv-loop μ-loop
-noted-requires c κs = search needs
-
-add-i : tie.Need-add-i Inv-loop μ-loop
-add-i c = search needs
-
-loop-less : tie.Need-loop-less Inv-loop μ-loop
-loop-less c = search needs
 
 loop-again : tie.Need-loop-again Inv-loop μ-loop
 loop-again c =
@@ -52,9 +36,6 @@ loop-again c =
       kept-beyond _ _ _ (l .0) (a .step .ensures .1) (l .3),
     )
 
-same-length-2 : tie.Need-same-length-2 Inv-loop μ-loop
-same-length-2 c = search needs
-
 returns-2 : tie.Need-returns-2 Inv-loop μ-loop
 returns-2 c = let l = c .before .loop .inv in (follow-out _ _ _ _ _ (l .0) (c .loop-test .left), l .3)
 
@@ -65,12 +46,12 @@ all-steps-spec =
     Inv-loop
     μ-loop
     loop-holds
-    same-length
+    (λ c. search needs)
     returns
     step-requires
-    noted-requires
-    add-i
-    loop-less
+    (λ c κs. search needs)
+    (λ c. search needs)
+    (λ c. search needs)
     loop-again
-    same-length-2
+    (λ c. search needs)
     returns-2)

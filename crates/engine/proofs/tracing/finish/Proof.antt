@@ -10,20 +10,12 @@ use mathlib.Core.Path.{_≡_}
 use borrow.Author.Needs.{needs}
 use Rattle.engine.proofs.tracing.finish.Statement.{statement}
 use Rattle.engine.proofs.tracing.finish.Tie as tie
-use Rattle.engine.proofs.tracing.finish.Reads as reads
-use Rattle.engine.proofs.tracing.finish.Lts as lts
-use Rattle.critical.proofs.at_least.Reads as at-least-reads
-use Rattle.runs.proofs.refused.Reads as refused-reads
-use Rattle.engine.proofs.tracing.verdict.Reads as verdict-reads
 
 abbrev Inv-loop : tie.InvT-loop
 Inv-loop t table rows columns k observed f₀ j₀ f j = (j ≤ columns) × CheckedTable table rows columns k × (observed < rows) × Traced t × (f ≡ partialRun t table rows columns observed j)
 
 abbrev μ-loop : tie.MeasureT-loop
 μ-loop t table rows columns k observed f₀ j₀ f j = columns - j
-
-refused-requires : tie.Need-refused-requires Inv-loop μ-loop
-refused-requires c κs = search needs
 
 loop-holds : tie.Need-loop-holds Inv-loop μ-loop
 loop-holds c = let b = c .before in let q = b .before .before .pre in (omega arith, q .0, q .1, q .2, partial-start _ _ _ _ _ _ (b .refused .ensures))
@@ -37,9 +29,6 @@ add-at c = let l = c .before .loop .inv in let f = start-fits _ _ _ (l .1 .rows-
 verdict-requires : tie.Need-verdict-requires Inv-loop μ-loop
 verdict-requires c κs = let l = c .before .loop .inv in (l .3, omega (arith, c .loop-test .taken, l .1 .cols-most))
 
-mul-t14 : tie.Need-mul-t14 Inv-loop μ-loop
-mul-t14 c = search needs
-
 element-set-from-f : tie.Need-element-set-from-f Inv-loop μ-loop
 element-set-from-f c = let l = c .before .before .loop .inv in omega (arith, c .before .loop-test .taken, l .1 .cols-most)
 
@@ -51,18 +40,6 @@ shared-slice-read-at-least c = let l = c .before .before .before .loop .inv in l
 
 at-least-requires : tie.Need-at-least-requires Inv-loop μ-loop
 at-least-requires c κs = let l = c .before .before .before .loop .inv in (l .1, c .before .before .loop-test .taken)
-
-mul-f : tie.Need-mul-f Inv-loop μ-loop
-mul-f c = search needs
-
-element-write-f : tie.Need-element-write-f Inv-loop μ-loop
-element-write-f c = search needs
-
-add-j : tie.Need-add-j Inv-loop μ-loop
-add-j c = search needs
-
-loop-less : tie.Need-loop-less Inv-loop μ-loop
-loop-less c = search needs
 
 loop-again : tie.Need-loop-again Inv-loop μ-loop
 loop-again c =
@@ -79,19 +56,19 @@ finish-spec =
     (tie.spec
     Inv-loop
     μ-loop
-    refused-requires
+    (λ c κs. search needs)
     loop-holds
     mul-at
     add-at
     verdict-requires
-    mul-t14
+    (λ c. search needs)
     element-set-from-f
     mul-at-least
     shared-slice-read-at-least
     at-least-requires
-    mul-f
-    element-write-f
-    add-j
-    loop-less
+    (λ c. search needs)
+    (λ c. search needs)
+    (λ c. search needs)
+    (λ c. search needs)
     loop-again
     returns)

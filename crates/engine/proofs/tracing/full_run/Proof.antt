@@ -4,27 +4,12 @@ use mathlib.Core.Path.{refl}
 use borrow.Author.Needs.{needs}
 use Rattle.engine.proofs.tracing.full_run.Statement.{statement}
 use Rattle.engine.proofs.tracing.full_run.Tie as tie
-use Rattle.engine.proofs.tracing.full_run.Reads as reads
-use Rattle.engine.proofs.tracing.full_run.Lts as lts
-use Rattle.critical.proofs.size_of.Reads as size-of-reads
-use Rattle.engine.proofs.steps.clear.Reads as clear-reads
-use Rattle.engine.proofs.tracing.all_steps.Reads as all-steps-reads
-use Rattle.engine.proofs.tracing.finish.Reads as finish-reads
-
-size-of-requires : tie.Need-size-of-requires
-size-of-requires c κs = search needs
 
 all-steps-requires : tie.Need-all-steps-requires
 all-steps-requires c κs = let q = c .before .before .before .before .pre in (counted-can _ _ _ _ _ _ _ _ (c .before .size-of .ensures) (q .0) (q .1) (q .2) (q .3), q .4, refl)
 
-clear-requires : tie.Need-clear-requires
-clear-requires c κs = search needs
-
 finish-requires : tie.Need-finish-requires
 finish-requires c κs = let a = c .before .before .before .before .before .before in let q = a .before .before .before .before .before .pre in (q .0, q .2, counted-traced _ _ _ _ _ _ _ _ (a .before .before .size-of .ensures) _ (a .all-steps .ensures .0))
-
-same-length : tie.Need-same-length
-same-length c = search needs
 
 returns : tie.Need-returns
 returns c =
@@ -38,9 +23,9 @@ pub full-run-spec : {M : Type 1} → statement M
 full-run-spec =
     tie.close
     (tie.spec
-    size-of-requires
+    (λ c κs. search needs)
     all-steps-requires
-    clear-requires
+    (λ c κs. search needs)
     finish-requires
-    same-length
+    (λ c. search needs)
     returns)

@@ -8,8 +8,6 @@ use mathlib.Core.Path.{_≡_, refl}
 use borrow.Author.Needs.{needs}
 use Rattle.engine.proofs.tracing.verdict.Statement.{statement}
 use Rattle.engine.proofs.tracing.verdict.Tie as tie
-use Rattle.engine.proofs.tracing.verdict.Reads as reads
-use Rattle.engine.proofs.tracing.verdict.Lts as lts
 
 abbrev Inv-loop : tie.InvT-loop
 Inv-loop j t n last₀ i₀ last i = (i ≤ n) × (n ≡ t .steps) × Traced t × (j < 32) × (verdictIn t j ≡ lookFrom t i last j)
@@ -21,32 +19,8 @@ loop-holds : tie.Need-loop-holds Inv-loop μ-loop
 unfolding ofBits
 loop-holds c = let q = c .pre in (omega arith, refl, q .0, q .1, look-start _ _)
 
-mul-logged : tie.Need-mul-logged Inv-loop μ-loop
-mul-logged c = search needs
-
-element-copy-out-logged : tie.Need-element-copy-out-logged Inv-loop μ-loop
-element-copy-out-logged c = search needs
-
-mul-set : tie.Need-mul-set Inv-loop μ-loop
-mul-set c = search needs
-
-element-copy-out-set : tie.Need-element-copy-out-set Inv-loop μ-loop
-element-copy-out-set c = search needs
-
-cast-if1 : tie.Need-cast-if1 Inv-loop μ-loop
-cast-if1 c = search needs
-
-shr-if1 : tie.Need-shr-if1 Inv-loop μ-loop
-shr-if1 c = search needs
-
 returns : tie.Need-returns Inv-loop μ-loop
 returns c = let t = c .before .before .before in let l = t .before .loop .inv in look-hit _ _ _ _ (l .2) (omega (arith, t .loop-test .taken, l .1)) _ refl (c .if1 .taken) (l .4)
-
-add-i : tie.Need-add-i Inv-loop μ-loop
-add-i c = search needs
-
-loop-less : tie.Need-loop-less Inv-loop μ-loop
-loop-less c = search needs
 
 loop-again : tie.Need-loop-again Inv-loop μ-loop
 loop-again c = let t = c .before .before .before in let l = t .before .loop .inv in (omega (arith, t .loop-test .taken), l .1, l .2, l .3, look-on _ _ _ _ (l .2) (omega (arith, t .loop-test .taken, l .1)) _ refl (c .if1 .left) (l .4))
@@ -61,14 +35,14 @@ verdict-spec =
     Inv-loop
     μ-loop
     loop-holds
-    mul-logged
-    element-copy-out-logged
-    mul-set
-    element-copy-out-set
-    cast-if1
-    shr-if1
+    (λ c. search needs)
+    (λ c. search needs)
+    (λ c. search needs)
+    (λ c. search needs)
+    (λ c. search needs)
+    (λ c. search needs)
     returns
-    add-i
-    loop-less
+    (λ c. search needs)
+    (λ c. search needs)
     loop-again
     returns-2)

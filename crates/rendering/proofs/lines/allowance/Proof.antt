@@ -9,12 +9,9 @@ use Rattle.rendering.proofs.lines.allowance.Tie as tie
 mul-result : tie.Need-mul-result
 mul-result c = record { fits = product-fits _ _ (c .pre .0) (c .pre .1) }
 
-div-result : tie.Need-div-result
-div-result c = search needs
-
 returns : tie.Need-returns
 unfolding allowance
 returns c = refl
 
 pub allowance-spec : {M : Type 1} → statement M
-allowance-spec = tie.close (tie.spec mul-result div-result returns)
+allowance-spec = tie.close (tie.spec mul-result (λ c. search needs) returns)

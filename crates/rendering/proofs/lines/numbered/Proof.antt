@@ -5,18 +5,6 @@ use borrow.Author.Needs.{needs}
 use Rattle.rendering.proofs.lines.numbered.Statement.{statement}
 use Rattle.rendering.proofs.lines.numbered.Tie as tie
 
-put-all-requires : tie.Need-put-all-requires
-put-all-requires c κs = search needs
-
-put-field-requires : tie.Need-put-field-requires
-put-field-requires c κs = search needs
-
-put-requires : tie.Need-put-requires
-put-requires c κs = search needs
-
-same-length : tie.Need-same-length
-same-length c = search needs
-
 returns : tie.Need-returns
 returns c =
     let w = c .before .before .before .before .before .before .before .before .before .before .put-all .ensures in
@@ -26,4 +14,4 @@ returns c =
 
 pub numbered-spec : {M : Type 1} → statement M
 numbered-spec =
-    tie.close (tie.spec put-all-requires put-field-requires put-requires same-length returns)
+    tie.close (tie.spec (λ c κs. search needs) (λ c κs. search needs) (λ c κs. search needs) (λ c. search needs) returns)

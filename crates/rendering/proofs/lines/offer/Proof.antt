@@ -6,24 +6,6 @@ use borrow.Author.Needs.{needs}
 use Rattle.rendering.proofs.lines.offer.Statement.{statement}
 use Rattle.rendering.proofs.lines.offer.Tie as tie
 
-put-printed-requires : tie.Need-put-printed-requires
-put-printed-requires c κs = search needs
-
-put-requires : tie.Need-put-requires
-put-requires c κs = search needs
-
-verdict-requires : tie.Need-verdict-requires
-verdict-requires c κs = search needs
-
-put-field-requires : tie.Need-put-field-requires
-put-field-requires c κs = search needs
-
-put-requires-2 : tie.Need-put-requires-2
-put-requires-2 c κs = search needs
-
-same-length : tie.Need-same-length
-same-length c = search needs
-
 returns : tie.Need-returns
 returns c =
     let p = c .before .before .before .before .before .before .before .before .before .before .before .before .before .before .before .before .before .before .put-printed .ensures in
@@ -38,10 +20,10 @@ pub offer-spec : {M : Type 1} → statement M
 offer-spec =
     tie.close
     (tie.spec
-    put-printed-requires
-    put-requires
-    verdict-requires
-    put-field-requires
-    put-requires-2
-    same-length
+    (λ c κs. search needs)
+    (λ c κs. search needs)
+    (λ c κs. search needs)
+    (λ c κs. search needs)
+    (λ c κs. search needs)
+    (λ c. search needs)
     returns)

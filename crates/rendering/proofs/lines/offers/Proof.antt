@@ -22,47 +22,11 @@ loop-holds : tie.Need-loop-holds Inv-loop μ-loop
 unfolding linesTo
 loop-holds c = let q = c .before .pre in (omega arith, refl, q .2, q .0, q .1, refl, q .3, omega arith, wrote-none _ _)
 
-mul-d : tie.Need-mul-d Inv-loop μ-loop
-mul-d c = search needs
-
-element-copy-out-d : tie.Need-element-copy-out-d Inv-loop μ-loop
-element-copy-out-d c = search needs
-
-mul-offer : tie.Need-mul-offer Inv-loop μ-loop
-mul-offer c = search needs
-
-element-copy-out-offer : tie.Need-element-copy-out-offer Inv-loop μ-loop
-element-copy-out-offer c = search needs
-
-cast-offer : tie.Need-cast-offer Inv-loop μ-loop
-cast-offer c = search needs
-
-element-copy-out-offer-2 : tie.Need-element-copy-out-offer-2 Inv-loop μ-loop
-element-copy-out-offer-2 c = search needs
-
-cast-offer-2 : tie.Need-cast-offer-2 Inv-loop μ-loop
-cast-offer-2 c = search needs
-
-mul-offer-2 : tie.Need-mul-offer-2 Inv-loop μ-loop
-mul-offer-2 c = search needs
-
-element-copy-out-offer-3 : tie.Need-element-copy-out-offer-3 Inv-loop μ-loop
-element-copy-out-offer-3 c = search needs
-
 offer-requires : tie.Need-offer-requires Inv-loop μ-loop
 offer-requires c κs = let t = c .before .before .before .before .before in let l = t .before .loop .inv in (omega (arith, l .2, l .3, l .4, l .5, l .7, t .loop-test .taken), l .6 _ (t .loop-test .taken))
 
-add-i : tie.Need-add-i Inv-loop μ-loop
-add-i c = search needs
-
-loop-less : tie.Need-loop-less Inv-loop μ-loop
-loop-less c = search needs
-
 loop-again : tie.Need-loop-again Inv-loop μ-loop
 loop-again c = let s = c .before .before in let t = c .before .before .before .before .before .before .before .before in let l = t .before .loop .inv in (omega (arith, t .loop-test .taken), l .1, l .2, l .3, l .4, omega (arith, s .offer .kept .0, l .5), l .6, omega (arith, l .7, s .offer .ensures .1), wrote-as _ (lines-more _ _) (then (l .8) (s .offer .ensures .0)))
-
-same-length : tie.Need-same-length Inv-loop μ-loop
-same-length c = search needs
 
 returns : tie.Need-returns Inv-loop μ-loop
 returns c = let l = c .before .loop .inv in let e = ends _ _ _ (l .0) (c .loop-test .left) (l .1) in (wrote-as _ (lines-all _ _ _ e) (l .8), omega (arith, l .2, l .7, e))
@@ -74,18 +38,18 @@ offers-spec =
     Inv-loop
     μ-loop
     loop-holds
-    mul-d
-    element-copy-out-d
-    mul-offer
-    element-copy-out-offer
-    cast-offer
-    element-copy-out-offer-2
-    cast-offer-2
-    mul-offer-2
-    element-copy-out-offer-3
+    (λ c. search needs)
+    (λ c. search needs)
+    (λ c. search needs)
+    (λ c. search needs)
+    (λ c. search needs)
+    (λ c. search needs)
+    (λ c. search needs)
+    (λ c. search needs)
+    (λ c. search needs)
     offer-requires
-    add-i
-    loop-less
+    (λ c. search needs)
+    (λ c. search needs)
     loop-again
-    same-length
+    (λ c. search needs)
     returns)

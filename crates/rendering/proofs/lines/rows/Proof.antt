@@ -6,11 +6,8 @@ use borrow.Author.Needs.{needs}
 use Rattle.rendering.proofs.lines.rows.Statement.{statement}
 use Rattle.rendering.proofs.lines.rows.Tie as tie
 
-shl-result : tie.Need-shl-result
-shl-result c = search needs
-
 returns : tie.Need-returns
 returns c = let e = rows-shift _ (c .pre) in (e, omega (arith, e, pow-mono (c .pre)))
 
 pub rows-spec : {M : Type 1} → statement M
-rows-spec = tie.close (tie.spec shl-result returns)
+rows-spec = tie.close (tie.spec (λ c. search needs) returns)

@@ -22,26 +22,11 @@ loop-holds : tie.Need-loop-holds Inv-loop μ-loop
 unfolding linesTo
 loop-holds c = let q = c .before .pre in (omega arith, refl, q .0, q .1, refl, q .2, omega arith, wrote-none _ _)
 
-mul-m : tie.Need-mul-m Inv-loop μ-loop
-mul-m c = search needs
-
-element-copy-out-m : tie.Need-element-copy-out-m Inv-loop μ-loop
-element-copy-out-m c = search needs
-
 step-requires : tie.Need-step-requires Inv-loop μ-loop
 step-requires c κs = let t = c .before .before in let l = t .before .loop .inv in (omega (arith, l .2, l .3, l .4, l .5 .few-steps, l .6, t .loop-test .taken), l .5 .held _ (t .loop-test .taken), l .5 .whole _ (t .loop-test .taken))
 
-add-i : tie.Need-add-i Inv-loop μ-loop
-add-i c = search needs
-
-loop-less : tie.Need-loop-less Inv-loop μ-loop
-loop-less c = search needs
-
 loop-again : tie.Need-loop-again Inv-loop μ-loop
 loop-again c = let s = c .before .before in let t = c .before .before .before .before .before in let l = t .before .loop .inv in (omega (arith, t .loop-test .taken), l .1, l .2, l .3, omega (arith, s .step .kept .0, l .4), l .5, omega (arith, l .6, s .step .ensures .1), wrote-as _ (lines-more _ _) (then (l .7) (s .step .ensures .0)))
-
-same-length : tie.Need-same-length Inv-loop μ-loop
-same-length c = search needs
 
 returns : tie.Need-returns Inv-loop μ-loop
 returns c = let l = c .before .loop .inv in let e = ends _ _ _ (l .0) (c .loop-test .left) (l .1) in (wrote-as _ (lines-all _ _ _ e) (l .7), omega (arith, l .5 .few-steps, l .6, e))
@@ -53,11 +38,11 @@ steps-spec =
     Inv-loop
     μ-loop
     loop-holds
-    mul-m
-    element-copy-out-m
+    (λ c. search needs)
+    (λ c. search needs)
     step-requires
-    add-i
-    loop-less
+    (λ c. search needs)
+    (λ c. search needs)
     loop-again
-    same-length
+    (λ c. search needs)
     returns)

@@ -18,15 +18,6 @@ use Rattle.rendering.proofs.text.put_cents.Tie as tie
 small : (c : tie.Start) → natAbs (cents (c .args .c)) < 2 ^ 63
 small c = cents-small (c .args .c) (c .pre .1) (c .pre .2)
 
-float-to-int-z : tie.Need-float-to-int-z
-float-to-int-z c = search needs
-
-put-requires : tie.Need-put-requires
-put-requires c κs = search needs
-
-put-requires-2 : tie.Need-put-requires-2
-put-requires-2 c κs = search needs
-
 sub-put-decimal : tie.Need-sub-put-decimal
 sub-put-decimal c =
     let i = c .before .before .before .before .before in
@@ -38,12 +29,6 @@ cast-put-decimal c =
     let i = c .before .before .before .before .before in
     let s = i .before .before .before .before .before .before .before in
     casts w64 (cents (s .args .c)) (small s) _ (minus-is w64 (cents (s .args .c)) (small s) (i .if1 .taken))
-
-put-decimal-requires : tie.Need-put-decimal-requires
-put-decimal-requires c κs = search needs
-
-same-length : tie.Need-same-length
-same-length c = search needs
 
 returns : tie.Need-returns
 returns c =
@@ -61,12 +46,6 @@ cast-put-decimal-2 c =
     let s = i .before .before .before .before .before .before .before in
     casts w64 (cents (s .args .c)) (small s) _ (kept-is w64 (cents (s .args .c)) (small s) (i .if1 .left))
 
-put-decimal-requires-2 : tie.Need-put-decimal-requires-2
-put-decimal-requires-2 c κs = search needs
-
-same-length-2 : tie.Need-same-length-2
-same-length-2 c = search needs
-
 returns-2 : tie.Need-returns-2
 returns-2 c =
     let d = c .before .before .put-decimal2 .ensures in
@@ -80,15 +59,15 @@ pub put-cents-spec : {M : Type 1} → statement M
 put-cents-spec =
     tie.close
     (tie.spec
-    float-to-int-z
-    put-requires
-    put-requires-2
+    (λ c. search needs)
+    (λ c κs. search needs)
+    (λ c κs. search needs)
     sub-put-decimal
     cast-put-decimal
-    put-decimal-requires
-    same-length
+    (λ c κs. search needs)
+    (λ c. search needs)
     returns
     cast-put-decimal-2
-    put-decimal-requires-2
-    same-length-2
+    (λ c κs. search needs)
+    (λ c. search needs)
     returns-2)

@@ -3,10 +3,6 @@ use Rattle.stepdown.proofs.Spoiled.{set-beyond, too-many-steps, rejecte
 use borrow.Author.Needs.{needs}
 use Rattle.stepdown.proofs.refusal.bad_progress.Statement.{statement}
 use Rattle.stepdown.proofs.refusal.bad_progress.Tie as tie
-use Rattle.stepdown.proofs.refusal.bad_progress.Reads as reads
-use Rattle.stepdown.proofs.refusal.bad_progress.Lts as lts
-use Rattle.critical.proofs.full_mask.Reads as full-mask-reads
-use Rattle.critical.proofs.size_of.Reads as size-of-reads
 
 full-mask-requires : tie.Need-full-mask-requires
 full-mask-requires c κs = figures _ (c .pre) .shaped .columns-most
@@ -25,9 +21,6 @@ returns-4 c = ended-at-start _ _ (c .before .before .before .before .before .bef
 
 returns-5 : tie.Need-returns-5
 returns-5 c = ended-later _ _ (c .before .before .before .before .before .before .before .full-mask .ensures) (c .before .before .before .before .before .if1 .left) (c .before .before .before .if2 .left) (c .before .if3 .left) (c .if5 .taken)
-
-size-of-requires : tie.Need-size-of-requires
-size-of-requires c κs = search needs
 
 returns-6 : tie.Need-returns-6
 returns-6 c = few-for-steps _ (c .before .before .before .if5 .left) _ (c .before .before .size-of .ensures) (c .if6 .taken)
@@ -48,7 +41,7 @@ bad-progress-spec =
     returns-3
     returns-4
     returns-5
-    size-of-requires
+    (λ c κs. search needs)
     returns-6
     returns-7
     returns-8)

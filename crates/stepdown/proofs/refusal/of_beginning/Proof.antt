@@ -6,20 +6,10 @@ use mathlib.Core.Path.{refl, sym, _∙_}
 use borrow.Author.Needs.{needs}
 use Rattle.stepdown.proofs.refusal.of_beginning.Statement.{statement}
 use Rattle.stepdown.proofs.refusal.of_beginning.Tie as tie
-use Rattle.stepdown.proofs.refusal.of_beginning.Reads as reads
-use Rattle.stepdown.proofs.refusal.of_beginning.Lts as lts
-use Rattle.refusals.proofs.bad_level.Reads as bad-level-reads
-use Rattle.stepdown.proofs.refusal.bad_shape.Reads as bad-shape-reads
-
-bad-shape-requires : tie.Need-bad-shape-requires
-bad-shape-requires c κs = search needs
 
 returns : tie.Need-returns
 unfolding beginRefusal
 returns c = holds _ _ _ (sym (c .before .bad-shape .ensures) ∙ c .if1 .taken)
-
-bad-level-requires : tie.Need-bad-level-requires
-bad-level-requires c κs = search needs
 
 returns-2 : tie.Need-returns-2
 unfolding beginRefusal
@@ -36,4 +26,4 @@ returns-4 c = passes _ _ _ _ (sym (c .before .before .before .before .bad-shape 
 pub of-beginning-spec : {M : Type 1} → statement M
 of-beginning-spec =
     tie.close
-    (tie.spec bad-shape-requires returns bad-level-requires returns-2 returns-3 returns-4)
+    (tie.spec (λ c κs. search needs) returns (λ c κs. search needs) returns-2 returns-3 returns-4)

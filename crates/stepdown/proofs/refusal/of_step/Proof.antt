@@ -9,13 +9,6 @@ use mathlib.Core.Path.{refl, sym, ap, _∙_}
 use borrow.Author.Needs.{needs}
 use Rattle.stepdown.proofs.refusal.of_step.Statement.{statement}
 use Rattle.stepdown.proofs.refusal.of_step.Tie as tie
-use Rattle.stepdown.proofs.refusal.of_step.Reads as reads
-use Rattle.stepdown.proofs.refusal.of_step.Lts as lts
-use Rattle.order.proofs.all_finite.Reads as all-finite-reads
-use Rattle.stepdown.proofs.refusal.spoiled.Reads as spoiled-reads
-
-spoiled-requires : tie.Need-spoiled-requires
-spoiled-requires c κs = search needs
 
 returns : tie.Need-returns
 unfolding stepRefusal
@@ -31,9 +24,6 @@ mul-if3 c = let f = figures _ (spoiled-none _ (sym (c .before .before .before .s
 returns-3 : tie.Need-returns-3
 unfolding stepRefusal
 returns-3 c = passes _ _ _ _ (sym (c .before .before .before .before .spoiled .ensures) ∙ c .before .before .before .if1 .left) (passes _ _ _ _ (c .before .before .if2 .left) (holds _ _ _ (not-yes _ (ne-eqb _ _ (c .if3 .taken)))))
-
-all-finite-requires : tie.Need-all-finite-requires
-all-finite-requires c κs = search needs
 
 returns-4 : tie.Need-returns-4
 unfolding stepRefusal
@@ -51,12 +41,12 @@ pub of-step-spec : {M : Type 1} → statement M
 of-step-spec =
     tie.close
     (tie.spec
-    spoiled-requires
+    (λ c κs. search needs)
     returns
     returns-2
     mul-if3
     returns-3
-    all-finite-requires
+    (λ c κs. search needs)
     returns-4
     returns-5
     returns-6)

@@ -9,21 +9,10 @@ use mathlib.Core.Path.{refl, sym, ap, _∙_}
 use borrow.Author.Needs.{needs}
 use Rattle.stepdown.proofs.refusal.of_table.Statement.{statement}
 use Rattle.stepdown.proofs.refusal.of_table.Tie as tie
-use Rattle.stepdown.proofs.refusal.of_table.Reads as reads
-use Rattle.stepdown.proofs.refusal.of_table.Lts as lts
-use Rattle.order.proofs.all_finite.Reads as all-finite-reads
-use Rattle.refusals.proofs.bad_level.Reads as bad-level-reads
-use Rattle.stepdown.proofs.refusal.bad_shape.Reads as bad-shape-reads
-
-bad-shape-requires : tie.Need-bad-shape-requires
-bad-shape-requires c κs = search needs
 
 returns : tie.Need-returns
 unfolding tableRunRefusal
 returns c = holds _ _ _ (sym (c .before .bad-shape .ensures) ∙ c .if1 .taken)
-
-bad-level-requires : tie.Need-bad-level-requires
-bad-level-requires c κs = search needs
 
 returns-2 : tie.Need-returns-2
 unfolding tableRunRefusal
@@ -39,9 +28,6 @@ returns-3 c = passes _ _ _ _ (sym (c .before .before .before .before .bad-shape 
 returns-4 : tie.Need-returns-4
 unfolding tableRunRefusal
 returns-4 c = passes _ _ _ _ (sym (c .before .before .before .before .before .bad-shape .ensures) ∙ c .before .before .before .before .if1 .left) (passes _ _ _ _ (sym (c .before .before .before .bad-level .ensures) ∙ c .before .before .if2 .left) (passes _ _ _ _ (not-no _ (eq-eqb _ _ (c .before .if3 .left))) (holds _ _ _ (le-leb _ _ (c .if4 .taken)))))
-
-all-finite-requires : tie.Need-all-finite-requires
-all-finite-requires c κs = search needs
 
 returns-5 : tie.Need-returns-5
 unfolding tableRunRefusal
@@ -59,14 +45,14 @@ pub of-table-spec : {M : Type 1} → statement M
 of-table-spec =
     tie.close
     (tie.spec
-    bad-shape-requires
+    (λ c κs. search needs)
     returns
-    bad-level-requires
+    (λ c κs. search needs)
     returns-2
     mul-if3
     returns-3
     returns-4
-    all-finite-requires
+    (λ c κs. search needs)
     returns-5
     returns-6
     returns-7)

@@ -3,13 +3,6 @@ use Rattle.stepdown.proofs.Spoiled.{figures-bad, figures-good, spoiled-
 use borrow.Author.Needs.{needs}
 use Rattle.stepdown.proofs.refusal.spoiled.Statement.{statement}
 use Rattle.stepdown.proofs.refusal.spoiled.Tie as tie
-use Rattle.stepdown.proofs.refusal.spoiled.Reads as reads
-use Rattle.stepdown.proofs.refusal.spoiled.Lts as lts
-use Rattle.stepdown.proofs.refusal.bad_progress.Reads as bad-progress-reads
-use Rattle.stepdown.proofs.refusal.of_beginning.Reads as of-beginning-reads
-
-of-beginning-requires : tie.Need-of-beginning-requires
-of-beginning-requires c κs = search needs
 
 returns : tie.Need-returns
 returns c = figures-bad _ _ (c .before .of-beginning .ensures) (c .if1 .taken)
@@ -21,4 +14,4 @@ returns-2 : tie.Need-returns-2
 returns-2 c = spoiled-else _ _ (figures-good _ _ (c .before .before .of-beginning .ensures) (c .before .if1 .left)) (c .bad-progress .ensures)
 
 pub spoiled-spec : {M : Type 1} → statement M
-spoiled-spec = tie.close (tie.spec of-beginning-requires returns bad-progress-requires returns-2)
+spoiled-spec = tie.close (tie.spec (λ c κs. search needs) returns bad-progress-requires returns-2)

@@ -5,9 +5,6 @@ use Rattle.trial.proofs.Conditions.{digits-most, digits-outside, digits
 use Rattle.trial.proofs.checks.bad_digits.Statement.{statement}
 use Rattle.trial.proofs.checks.bad_digits.Tie as tie
 
-outside-requires : tie.Need-outside-requires
-outside-requires c κs = search needs
-
 returns : tie.Need-returns
 returns c = digits-outside _ _ _ (c .before .outside .ensures) (c .if1 .taken)
 
@@ -24,4 +21,4 @@ returns-2 c = digits-few _ _ _ (c .before .outside .ensures) (c .if1 .left)
 
 pub bad-digits-spec : {M : Type 1} → statement M
 bad-digits-spec =
-    tie.close (tie.spec outside-requires returns mul-result array-read-result returns-2)
+    tie.close (tie.spec (λ c κs. search needs) returns mul-result array-read-result returns-2)

@@ -20,26 +20,11 @@ abbrev μ-loop : tie.MeasureT-loop
 loop-holds : tie.Need-loop-holds Inv-loop μ-loop
 loop-holds c = (omega arith, omega arith, omega arith, differences-start _ _ 0)
 
-mul-bad-difference : tie.Need-mul-bad-difference Inv-loop μ-loop
-mul-bad-difference c = search needs
-
-array-copy-out-bad-difference : tie.Need-array-copy-out-bad-difference Inv-loop μ-loop
-array-copy-out-bad-difference c = search needs
-
-bad-difference-requires : tie.Need-bad-difference-requires Inv-loop μ-loop
-bad-difference-requires c κs = search needs
-
 returns : tie.Need-returns Inv-loop μ-loop
 returns c =
     let t = c .before .before .before in
     let l = t .before .loop .inv in
     sym (l .3 ∙ differences-next _ _ _ (t .loop-test .taken) (l .2) (c .before .before .bad-difference-arg .given) _ (c .before .bad-difference .ensures) true (c .if1 .taken))
-
-add-i : tie.Need-add-i Inv-loop μ-loop
-add-i c = search needs
-
-loop-less : tie.Need-loop-less Inv-loop μ-loop
-loop-less c = search needs
 
 loop-again : tie.Need-loop-again Inv-loop μ-loop
 loop-again c =
@@ -57,11 +42,11 @@ differences-spec =
     Inv-loop
     μ-loop
     loop-holds
-    mul-bad-difference
-    array-copy-out-bad-difference
-    bad-difference-requires
+    (λ c. search needs)
+    (λ c. search needs)
+    (λ c κs. search needs)
     returns
-    add-i
-    loop-less
+    (λ c. search needs)
+    (λ c. search needs)
     loop-again
     returns-2)

@@ -16,12 +16,6 @@ Inv-loop i code codes j₀ j = (j ≤ i) × (i ≤ 16) × (i ≤ length codes) �
 abbrev μ-loop : tie.MeasureT-loop
 μ-loop i code codes j₀ j = j
 
-loop-holds : tie.Need-loop-holds Inv-loop μ-loop
-loop-holds c = search needs
-
-sub-j : tie.Need-sub-j Inv-loop μ-loop
-sub-j c = search needs
-
 mul-if1 : tie.Need-mul-if1 Inv-loop μ-loop
 mul-if1 c = omega arith
 
@@ -46,8 +40,8 @@ earlier-spec =
     (tie.spec
     Inv-loop
     μ-loop
-    loop-holds
-    sub-j
+    (λ c. search needs)
+    (λ c. search needs)
     mul-if1
     array-read-if1
     returns

@@ -21,42 +21,12 @@ abbrev μ-loop : tie.MeasureT-loop
 loop-holds : tie.Need-loop-holds Inv-loop μ-loop
 loop-holds c = (omega arith, omega arith, omega arith, omega arith, offers-start _ _ _ 0)
 
-mul-code : tie.Need-mul-code Inv-loop μ-loop
-mul-code c = search needs
-
-array-read-code : tie.Need-array-read-code Inv-loop μ-loop
-array-read-code c = search needs
-
-array-read-bad-digits : tie.Need-array-read-bad-digits Inv-loop μ-loop
-array-read-bad-digits c = search needs
-
-cast-bad-digits : tie.Need-cast-bad-digits Inv-loop μ-loop
-cast-bad-digits c = search needs
-
-bad-digits-requires : tie.Need-bad-digits-requires Inv-loop μ-loop
-bad-digits-requires c κs = search needs
-
-earlier-requires : tie.Need-earlier-requires Inv-loop μ-loop
-earlier-requires c κs = search needs
-
-first-of-requires : tie.Need-first-of-requires Inv-loop μ-loop
-first-of-requires c κs = search needs
-
-first-of-requires-2 : tie.Need-first-of-requires-2 Inv-loop μ-loop
-first-of-requires-2 c κs = search needs
-
 returns : tie.Need-returns Inv-loop μ-loop
 returns c =
     let q = c .before .before .before in
     let d = q .before in
     let l = d .before .before .loop .inv in
     sym (l .4 ∙ offers-refused _ _ _ _ (d .before .loop-test .taken) (l .2) (l .3) _ _ _ _ (d .bad-digits .ensures) (q .earlier .ensures) (c .before .before .first-of .ensures) (c .before .first-of2 .ensures) (c .if1 .taken))
-
-add-i : tie.Need-add-i Inv-loop μ-loop
-add-i c = search needs
-
-loop-less : tie.Need-loop-less Inv-loop μ-loop
-loop-less c = search needs
 
 loop-again : tie.Need-loop-again Inv-loop μ-loop
 loop-again c =
@@ -80,16 +50,16 @@ offers-spec =
     Inv-loop
     μ-loop
     loop-holds
-    mul-code
-    array-read-code
-    array-read-bad-digits
-    cast-bad-digits
-    bad-digits-requires
-    earlier-requires
-    first-of-requires
-    first-of-requires-2
+    (λ c. search needs)
+    (λ c. search needs)
+    (λ c. search needs)
+    (λ c. search needs)
+    (λ c κs. search needs)
+    (λ c κs. search needs)
+    (λ c κs. search needs)
+    (λ c κs. search needs)
     returns
-    add-i
-    loop-less
+    (λ c. search needs)
+    (λ c. search needs)
     loop-again
     returns-2)

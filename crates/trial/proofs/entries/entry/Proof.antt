@@ -25,27 +25,6 @@ abbrev μ-loop : tie.MeasureT-loop
 loop-holds : tie.Need-loop-holds Inv-loop μ-loop
 loop-holds c = (omega arith, omega arith, omega arith, omega arith, omega arith, sum-start (c .args .t1) (c .args .base) (c .args .pairs) (c .args .g))
 
-add-d : tie.Need-add-d Inv-loop μ-loop
-add-d c = search needs
-
-mul-d : tie.Need-mul-d Inv-loop μ-loop
-mul-d c = search needs
-
-array-copy-out-d : tie.Need-array-copy-out-d Inv-loop μ-loop
-array-copy-out-d c = search needs
-
-minus-requires : tie.Need-minus-requires Inv-loop μ-loop
-minus-requires c κs = search needs
-
-plus-requires : tie.Need-plus-requires Inv-loop μ-loop
-plus-requires c κs = search needs
-
-add-j : tie.Need-add-j Inv-loop μ-loop
-add-j c = search needs
-
-loop-less : tie.Need-loop-less Inv-loop μ-loop
-loop-less c = search needs
-
 loop-again : tie.Need-loop-again Inv-loop μ-loop
 loop-again c =
     let t = c .before .before in
@@ -61,9 +40,6 @@ loop-again c =
     (omega arith, l .1, l .2, l .3, omega arith, l .5 ∙ turn-plus _ _ _ _ _ (toZ w64 (t .before .loop .sum)) _ _ (t .loop-test .taken) (l .2) (c .before .d .given) (w .2) small (w .0 .left) (w .1 .ensures .0)))
     (c .if1 .came)
 
-whole-requires : tie.Need-whole-requires Inv-loop μ-loop
-whole-requires c κs = search needs
-
 returns : tie.Need-returns Inv-loop μ-loop
 returns c = let l = c .before .before .loop .inv in c .whole .ensures ∙ ap (ofInt binary64) (sym (l .5 ∙ sum-end _ _ _ _ _ _ (c .before .loop-test .left)))
 
@@ -74,13 +50,13 @@ entry-spec =
     Inv-loop
     μ-loop
     loop-holds
-    add-d
-    mul-d
-    array-copy-out-d
-    minus-requires
-    plus-requires
-    add-j
-    loop-less
+    (λ c. search needs)
+    (λ c. search needs)
+    (λ c. search needs)
+    (λ c κs. search needs)
+    (λ c κs. search needs)
+    (λ c. search needs)
+    (λ c. search needs)
     loop-again
-    whole-requires
+    (λ c κs. search needs)
     returns)

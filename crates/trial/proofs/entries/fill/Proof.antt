@@ -17,31 +17,10 @@ Inv-loop t out₀ total p₀ out p =
 abbrev μ-loop : tie.MeasureT-loop
 μ-loop t out₀ total p₀ out p = total - p
 
-loop-holds : tie.Need-loop-holds Inv-loop μ-loop
-loop-holds c = search needs
-
-place-requires : tie.Need-place-requires Inv-loop μ-loop
-place-requires c κs = search needs
-
-mul-out : tie.Need-mul-out Inv-loop μ-loop
-mul-out c = search needs
-
-slice-write-out : tie.Need-slice-write-out Inv-loop μ-loop
-slice-write-out c = search needs
-
-add-p : tie.Need-add-p Inv-loop μ-loop
-add-p c = search needs
-
-loop-less : tie.Need-loop-less Inv-loop μ-loop
-loop-less c = search needs
-
 loop-again : tie.Need-loop-again Inv-loop μ-loop
 loop-again c =
     let l = c .before .before .loop .inv in
     (omega arith, l .1, l .2, l .3, l .4, l .5, simp length-set (l .6), fill-turn _ _ _ (l .4) _ _ _ (c .before .loop-test .taken) (l .5) (l .7) (c .place .ensures))
-
-same-length : tie.Need-same-length Inv-loop μ-loop
-same-length c = search needs
 
 returns : tie.Need-returns Inv-loop μ-loop
 returns c = let l = c .before .loop .inv in fill-end _ _ _ (l .4) _ _ (l .0) (c .loop-test .left) (l .7)
@@ -52,12 +31,12 @@ fill-spec =
     (tie.spec
     Inv-loop
     μ-loop
-    loop-holds
-    place-requires
-    mul-out
-    slice-write-out
-    add-p
-    loop-less
+    (λ c. search needs)
+    (λ c κs. search needs)
+    (λ c. search needs)
+    (λ c. search needs)
+    (λ c. search needs)
+    (λ c. search needs)
     loop-again
-    same-length
+    (λ c. search needs)
     returns)

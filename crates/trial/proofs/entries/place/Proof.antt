@@ -5,16 +5,10 @@ use Rattle.trial.proofs.Places.{offer-held, place-entry}
 use Rattle.trial.proofs.entries.place.Statement.{statement}
 use Rattle.trial.proofs.entries.place.Tie as tie
 
-rem-entry : tie.Need-rem-entry
-rem-entry c = search needs
-
 mul-entry : tie.Need-mul-entry
 mul-entry c =
     let h = offer-held (c .before .args .t) (c .before .args .p) (c .before .pre .0) (c .before .pre .1) (c .before .pre .2) in
     omega arith
-
-div-entry : tie.Need-div-entry
-div-entry c = search needs
 
 entry-requires : tie.Need-entry-requires
 entry-requires c κs =
@@ -24,4 +18,4 @@ returns : tie.Need-returns
 returns c = let s = c .before .before in place-entry (s .args .t) (s .args .p) (s .pre .0) (s .pre .1) (s .pre .2) (s .pre .3) (c .entry .result) (c .entry .ensures)
 
 pub place-spec : {M : Type 1} → statement M
-place-spec = tie.close (tie.spec rem-entry mul-entry div-entry entry-requires returns)
+place-spec = tie.close (tie.spec (λ c. search needs) mul-entry (λ c. search needs) entry-requires returns)

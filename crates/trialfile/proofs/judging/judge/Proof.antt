@@ -5,37 +5,19 @@ use borrow.Author.Needs.{needs}
 use Rattle.trialfile.proofs.judging.judge.Statement.{statement}
 use Rattle.trialfile.proofs.judging.judge.Tie as tie
 
-bad-length-requires : tie.Need-bad-length-requires
-bad-length-requires c κs = search needs
-
 returns : tie.Need-returns
 returns c = sym (length-bad _ _ (c .before .bad-length .ensures) (c .if1 .taken))
-
-judge-level-requires : tie.Need-judge-level-requires
-judge-level-requires c κs = search needs
 
 returns-2 : tie.Need-returns-2
 returns-2 c =
     let l = c .before in
     sym (level-decides _ _ (l .before .before .bad-length .ensures) (l .before .if1 .left) _ (l .judge-level .ensures) (c .if2 .taken))
 
-judge-shape-requires : tie.Need-judge-shape-requires
-judge-shape-requires c κs = search needs
-
 returns-3 : tie.Need-returns-3
 returns-3 c =
     let s = c .before in
     let l = s .before .before in
     sym (shape-decides _ _ (l .before .before .bad-length .ensures) (l .before .if1 .left) _ (l .judge-level .ensures) (s .before .if2 .left) _ (s .judge-shape .ensures) (c .if3 .taken))
-
-word-at-requires : tie.Need-word-at-requires
-word-at-requires c κs = search needs
-
-cast-judge-body : tie.Need-cast-judge-body
-cast-judge-body c = search needs
-
-cast-judge-body-2 : tie.Need-cast-judge-body-2
-cast-judge-body-2 c = search needs
 
 judge-body-requires : tie.Need-judge-body-requires
 judge-body-requires c κs = shape-most _ _ _ (c .word-at .ensures) (c .before .before .judge-shape .ensures) (c .before .if3 .left)
@@ -50,14 +32,14 @@ pub judge-spec : {M : Type 1} → statement M
 judge-spec =
     tie.close
     (tie.spec
-    bad-length-requires
+    (λ c κs. search needs)
     returns
-    judge-level-requires
+    (λ c κs. search needs)
     returns-2
-    judge-shape-requires
+    (λ c κs. search needs)
     returns-3
-    word-at-requires
-    cast-judge-body
-    cast-judge-body-2
+    (λ c κs. search needs)
+    (λ c. search needs)
+    (λ c. search needs)
     judge-body-requires
     returns-4)

@@ -15,16 +15,10 @@ most c = product-most (c .args .offers) (c .args .pairs) (c .pre .0) (c .pre .1)
 mul-n : tie.Need-mul-n
 mul-n c = record { fits = omega (arith, most (c .before)) }
 
-judge-offers-requires : tie.Need-judge-offers-requires
-judge-offers-requires c κs = search needs
-
 returns : tie.Need-returns
 returns c =
     let args = c .before .before .before .args in
     sym (body-offers (wordsOf (args .file .now)) (args .offers) (args .pairs) _ (c .before .judge-offers .ensures) (c .if1 .taken))
-
-add-judge-differences : tie.Need-add-judge-differences
-add-judge-differences c = search needs
 
 judge-differences-requires : tie.Need-judge-differences-requires
 judge-differences-requires c κs = let m = most (c .before .before .before) in (omega arith, m)
@@ -32,9 +26,6 @@ judge-differences-requires c κs = let m = most (c .before .before .before) in (
 returns-2 : tie.Need-returns-2
 returns-2 c =
     sym (body-differences _ _ _ _ (c .before .before .before .judge-offers .ensures) (c .before .before .if1 .left) _ _ refl (c .before .judge-differences .ensures) (c .if2 .taken))
-
-add-judge-end : tie.Need-add-judge-end
-add-judge-end c = search needs
 
 add-judge-end-2 : tie.Need-add-judge-end-2
 add-judge-end-2 c = record { fits = omega (arith, most (c .before .before .before .before .before)) }
@@ -52,12 +43,12 @@ judge-body-spec =
     tie.close
     (tie.spec
     mul-n
-    judge-offers-requires
+    (λ c κs. search needs)
     returns
-    add-judge-differences
+    (λ c. search needs)
     judge-differences-requires
     returns-2
-    add-judge-end
+    (λ c. search needs)
     add-judge-end-2
     judge-end-requires
     returns-3)

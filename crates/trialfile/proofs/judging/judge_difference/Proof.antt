@@ -4,18 +4,6 @@ use borrow.Author.Needs.{needs}
 use Rattle.trialfile.proofs.judging.judge_difference.Statement.{statement}
 use Rattle.trialfile.proofs.judging.judge_difference.Tie as tie
 
-difference-of-requires : tie.Need-difference-of-requires
-difference-of-requires c κs = search needs
-
-bad-difference-requires : tie.Need-bad-difference-requires
-bad-difference-requires c κs = search needs
-
-first-of-requires : tie.Need-first-of-requires
-first-of-requires c κs = search needs
-
-first-of-requires-2 : tie.Need-first-of-requires-2
-first-of-requires-2 c κs = search needs
-
 returns : tie.Need-returns
 returns c =
     let b = c .before .before in
@@ -25,8 +13,8 @@ pub judge-difference-spec : {M : Type 1} → statement M
 judge-difference-spec =
     tie.close
     (tie.spec
-    difference-of-requires
-    bad-difference-requires
-    first-of-requires
-    first-of-requires-2
+    (λ c κs. search needs)
+    (λ c κs. search needs)
+    (λ c κs. search needs)
+    (λ c κs. search needs)
     returns)

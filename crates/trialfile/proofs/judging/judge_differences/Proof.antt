@@ -22,25 +22,10 @@ loop-holds c =
     let args = c .before .args in
     (omega arith, omega arith, omega arith, differences-start (wordsOf (args .file .now)) (args .from) (args .n))
 
-add-word-at : tie.Need-add-word-at Inv-loop μ-loop
-add-word-at c = search needs
-
-word-at-requires : tie.Need-word-at-requires Inv-loop μ-loop
-word-at-requires c κs = search needs
-
-judge-difference-requires : tie.Need-judge-difference-requires Inv-loop μ-loop
-judge-difference-requires c κs = search needs
-
 returns : tie.Need-returns Inv-loop μ-loop
 returns c =
     let at = c .before .before in
     sym (at .before .before .loop .inv .3 ∙ difference-decides _ _ _ _ (at .before .loop-test .taken) _ _ (at .word-at .ensures) (c .before .judge-difference .ensures) (c .if1 .taken))
-
-add-i : tie.Need-add-i Inv-loop μ-loop
-add-i c = search needs
-
-loop-less : tie.Need-loop-less Inv-loop μ-loop
-loop-less c = search needs
 
 loop-again : tie.Need-loop-again Inv-loop μ-loop
 loop-again c =
@@ -57,11 +42,11 @@ judge-differences-spec =
     Inv-loop
     μ-loop
     loop-holds
-    add-word-at
-    word-at-requires
-    judge-difference-requires
+    (λ c. search needs)
+    (λ c κs. search needs)
+    (λ c κs. search needs)
     returns
-    add-i
-    loop-less
+    (λ c. search needs)
+    (λ c. search needs)
     loop-again
     returns-2)

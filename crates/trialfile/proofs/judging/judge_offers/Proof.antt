@@ -21,19 +21,10 @@ abbrev μ-loop : tie.MeasureT-loop
 loop-holds : tie.Need-loop-holds Inv-loop μ-loop
 loop-holds c = (omega arith, omega arith, offers-start _ _)
 
-judge-offer-requires : tie.Need-judge-offer-requires Inv-loop μ-loop
-judge-offer-requires c κs = search needs
-
 returns : tie.Need-returns Inv-loop μ-loop
 returns c =
     sym (c .before .before .before .loop .inv .2
     ∙ offer-decides _ _ _ (c .before .before .loop-test .taken) _ (c .before .judge-offer .ensures) (c .if1 .taken))
-
-add-i : tie.Need-add-i Inv-loop μ-loop
-add-i c = search needs
-
-loop-less : tie.Need-loop-less Inv-loop μ-loop
-loop-less c = search needs
 
 loop-again : tie.Need-loop-again Inv-loop μ-loop
 loop-again c =
@@ -49,9 +40,9 @@ judge-offers-spec =
     Inv-loop
     μ-loop
     loop-holds
-    judge-offer-requires
+    (λ c κs. search needs)
     returns
-    add-i
-    loop-less
+    (λ c. search needs)
+    (λ c. search needs)
     loop-again
     returns-2)

@@ -5,35 +5,11 @@ use borrow.Author.Needs.{needs}
 use Rattle.trialfile.proofs.reader.read_trial.Statement.{statement}
 use Rattle.trialfile.proofs.reader.read_trial.Tie as tie
 
-word-at-requires : tie.Need-word-at-requires
-word-at-requires c κs = search needs
-
-word-at-requires-2 : tie.Need-word-at-requires-2
-word-at-requires-2 c κs = search needs
-
-cast-offers : tie.Need-cast-offers
-cast-offers c = search needs
-
-cast-pairs : tie.Need-cast-pairs
-cast-pairs c = search needs
-
 read-offers-requires : tie.Need-read-offers-requires
 read-offers-requires c κs =
     let pre = c .before .before .before .pre in
     let shape = c .word-at2 .ensures in
     (offers-fit _ pre _ shape, omega (arith, words-fit _ pre _ shape))
-
-cast-t11 : tie.Need-cast-t11
-cast-t11 c = search needs
-
-cast-t13 : tie.Need-cast-t13
-cast-t13 c = search needs
-
-cast-t16 : tie.Need-cast-t16
-cast-t16 c = search needs
-
-add-read-differences : tie.Need-add-read-differences
-add-read-differences c = search needs
 
 mul-read-differences : tie.Need-mul-read-differences
 mul-read-differences c =
@@ -57,15 +33,15 @@ pub read-trial-spec : {M : Type 1} → statement M
 read-trial-spec =
     tie.close
     (tie.spec
-    word-at-requires
-    word-at-requires-2
-    cast-offers
-    cast-pairs
+    (λ c κs. search needs)
+    (λ c κs. search needs)
+    (λ c. search needs)
+    (λ c. search needs)
     read-offers-requires
-    cast-t11
-    cast-t13
-    cast-t16
-    add-read-differences
+    (λ c. search needs)
+    (λ c. search needs)
+    (λ c. search needs)
+    (λ c. search needs)
     mul-read-differences
     read-differences-requires
     returns)

@@ -5,12 +5,6 @@ use borrow.Author.Needs.{needs}
 use Rattle.trialfile.proofs.word.difference_of.Statement.{statement}
 use Rattle.trialfile.proofs.word.difference_of.Tie as tie
 
-cast-result : tie.Need-cast-result
-cast-result c = search needs
-
-cast-result-2 : tie.Need-cast-result-2
-cast-result-2 c = search needs
-
 sub-result : tie.Need-sub-result
 sub-result c = sub-fits _ (c .if1 .left) (omega arith)
 
@@ -21,4 +15,4 @@ returns-2 : tie.Need-returns-2
 returns-2 c = field-high _ (c .if1 .left) (omega arith)
 
 pub difference-of-spec : {M : Type 1} → statement M
-difference-of-spec = tie.close (tie.spec cast-result cast-result-2 sub-result returns returns-2)
+difference-of-spec = tie.close (tie.spec (λ c. search needs) (λ c. search needs) sub-result returns returns-2)

@@ -7,14 +7,8 @@ use borrow.Author.Needs.{needs}
 use Rattle.trialfile.proofs.word.difference_word.Statement.{statement}
 use Rattle.trialfile.proofs.word.difference_word.Tie as tie
 
-bits-of-requires : tie.Need-bits-of-requires
-bits-of-requires c κs = search needs
-
-add-result : tie.Need-add-result
-add-result c = search needs
-
 returns : tie.Need-returns
 returns c = ap (λ (n : ℕ). 1073741824 + n) (c .bits-of .ensures .0 ∙ ap bitsOf (toZ-ofZ (c .before .fits .d)))
 
 pub difference-word-spec : {M : Type 1} → statement M
-difference-word-spec = tie.close (tie.spec bits-of-requires add-result returns)
+difference-word-spec = tie.close (tie.spec (λ c κs. search needs) (λ c. search needs) returns)

@@ -38,9 +38,6 @@ returns-2 c =
     let s = c .before .before .before in
     c .shape-word .ensures ∙ sym (place-shape _ (s .pre .0) (s .pre .1) _ (c .before .if2 .taken))
 
-sub-j : tie.Need-sub-j
-sub-j c = search needs
-
 mul-offer-word : tie.Need-mul-offer-word
 mul-offer-word c = record { fits = omega (arith, known (c .before .before .before) .offers-most) }
 
@@ -61,9 +58,6 @@ returns-3 c =
     let t = c .before .before .before in
     let s = t .before .before .before in
     c .offer-word .ensures ∙ sym (place-offer _ (s .pre .0) (s .pre .1) _ (t .before .before .if1 .left) (t .before .if2 .left) (t .if3 .taken))
-
-sub-m : tie.Need-sub-m
-sub-m c = search needs
 
 mul-if4 : tie.Need-mul-if4
 mul-if4 c =
@@ -113,13 +107,13 @@ word-of-spec =
     returns
     shape-word-requires
     returns-2
-    sub-j
+    (λ c. search needs)
     mul-offer-word
     element-copy-out-offer-word
     element-copy-out-offer-word-2
     offer-word-requires
     returns-3
-    sub-m
+    (λ c. search needs)
     mul-if4
     mul-difference-word
     element-copy-out-difference-word

@@ -32,12 +32,6 @@ put-word-requires c κs =
     let l = c .before .before .before .loop .inv in
     (omega (arith, fileLength-most _ (l .0) (l .1), l .2), omega (arith, l .4, l .5))
 
-add-at : tie.Need-add-at Inv-loop μ-loop
-add-at c = search needs
-
-loop-less : tie.Need-loop-less Inv-loop μ-loop
-loop-less c = search needs
-
 loop-again : tie.Need-loop-again Inv-loop μ-loop
 loop-again c =
     let l = c .before .before .before .before .before .before .loop in
@@ -66,8 +60,8 @@ write-words-spec =
     loop-holds
     word-of-requires
     put-word-requires
-    add-at
-    loop-less
+    (λ c. search needs)
+    (λ c. search needs)
     loop-again
     same-length
     returns)

@@ -7,18 +7,6 @@ use Rattle.vectors.proofs.bits.of.Tie as tie
 float-to-bits-turned : tie.Need-float-to-bits-turned
 float-to-bits-turned c = equal-itself _ (c .if1 .taken)
 
-turned-requires : tie.Need-turned-requires
-turned-requires c κs = search needs
-
-returns : tie.Need-returns
-returns c = search needs
-
-turned-requires-2 : tie.Need-turned-requires-2
-turned-requires-2 c κs = search needs
-
-returns-2 : tie.Need-returns-2
-returns-2 c = search needs
-
 pub of-spec : {M : Type 1} → statement M
 of-spec =
-    tie.close (tie.spec float-to-bits-turned turned-requires returns turned-requires-2 returns-2)
+    tie.close (tie.spec float-to-bits-turned (λ c κs. search needs) (λ c. search needs) (λ c κs. search needs) (λ c. search needs))

@@ -13,8 +13,5 @@ add-result c = plus-fits _ (c .fits .d)
 cast-result-2 : tie.Need-cast-result-2
 cast-result-2 c = plus-casts _ (c .fits .d)
 
-returns : tie.Need-returns
-returns c = search needs
-
 pub shifted-spec : {M : Type 1} → statement M
-shifted-spec = tie.close (tie.spec cast-result add-result cast-result-2 returns)
+shifted-spec = tie.close (tie.spec cast-result add-result cast-result-2 (λ c. search needs))
