@@ -1,7 +1,6 @@
 -- Laws of sets of columns.
 --   has K j        column j is in K
 --   K ⊆ L          two sets over the same columns, each column of K in L; ⊆-by and ⊆-at go by columns
---   choose-reaches    a test that every set which holds B passes is passed by one of the sets of j columns of R
 --   has-over          which columns are over a value
 use Prim.Native.Nat.{ℕ, zero, suc, _+_, _-_, _≤_, _<_}
 use native.Mathlib.Omega.{arith}

@@ -1,6 +1,6 @@
 -- Sets of columns bit by bit: what a scan from column 0 on has seen, and what is still to come.
 --   size-in, size-past, size-done     a count of the columns
---   mask-in, mask-past, mask-done     a mask of the columns whose value is above v
+--   mark-in, mark-past, mark-done     a mask of the columns whose value is above v
 use Prim.Native.Nat.{ℕ, suc, _+_, _-_, _*_, _/_, _%_, _^_, _≤_, _<_}
 use native.Mathlib.Omega.{arith}
 use native.Mathlib.Numerals.{add-one}

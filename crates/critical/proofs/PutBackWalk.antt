@@ -2,7 +2,7 @@
 --   best-append          the largest of two lists, one after the other
 --   put-columns          a column put into a set, as a mask
 --   leaf-value, none-value, in-value, past-value      what the walk's four cases give
---   walk-in, walk-out, walk-past     what holds at the calls they make
+--   walk-in, walk-past     what holds at the calls they make
 use Prim.Native.Nat.{ℕ, zero, suc, _+_, _-_, _/_, _%_, _^_, _≤_, _<_}
 use native.Mathlib.Omega.{arith}
 use native.Mathlib.Numerals.{add-one}

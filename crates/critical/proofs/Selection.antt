@@ -1,5 +1,5 @@
 -- The m-th smallest by narrowing an open interval.
---   Low, High             a bound that may be an infinity
+--   low, high             a bound that may be an infinity
 --   Around                what holds of the bounds: around-start, and around-low, around-high after a turn
 --   fewer-low, fewer-high       a value from inside as a new bound leaves fewer values inside
 --   smallest-found        with no value left inside, the upper bound is the m-th smallest

@@ -1,6 +1,6 @@
 // Critical values of a table that has passed its checks: a row's k-max, c(K), the put-back value, and counts of rows.
-// INNER: these functions ask for a checked table (`requires`). Their callers are `engine`, and `stepdown` for the mask of all columns and the
-// size of a mask; no other crate uses them.
+// INNER: these functions ask for what they need (`requires`): a checked table, or sizes within the limits. Their callers are `engine`, and
+// `stepdown` for the mask of all columns and the size of a mask; no other crate uses them.
 mod counts; // formula 16: how many rows reach an observed value
 mod kmax; // a row's k-max
 mod masks; // sets of columns as the bits of a number

@@ -4,7 +4,7 @@
 --   Traced t             a trace of at most 32 steps, in arrays of 32 places
 --   traceOf ss           the records and rejected sets of steps, in 32 places each
 --   notedAt t i s        a trace with one step more, at place i
---   verdictIn t j        column j's verdict, read off a trace
+--   verdictOver, verdictIn t j     column j's verdict, read off records and sets, and off a trace
 --   finishedRun          the full run that a trace makes
 use Prim.Native.Nat.{ℕ, _+_, _*_, _^_, _≤_, _<_}
 use mathlib.Core.Path.{_≡_}

@@ -1,5 +1,5 @@
 // The stepdown method at e and over the live columns, on a table that has passed its checks: one step, and the full run.
-// INNER: these functions ask for a checked table (`requires`). Their caller is `stepdown`; no other crate uses them.
+// INNER: these functions ask for what they need (`requires`): a checked table, or a buffer that is long enough. Their caller is `stepdown`; no other crate uses them.
 mod steps; // one step
 mod tracing; // all steps of a run, and the verdicts read off them
 

@@ -12,7 +12,7 @@ use Rattle.refusals.specs.Answers.{Checks, firstRefusal}
 use Rattle.refusals.specs.Buffers.{tooShort, written}
 use Rattle.refusals.proofs.Answers.{answer-map, first-decides, first-short}
 use Rattle.runs.specs.FullRuns.{acceptedRun}
-use Rattle.verdicts.specs.Verdicts.{rejectedCount}
+use Rattle.verdicts.specs.Verdicts.{rejectedCount, smallSteps}
 use Rattle.trial.specs.Exchange.{rowTotal, tableOf}
 use Rattle.trial.specs.declared.Trial.{Trial}
 use Rattle.trial.proofs.Accepted.{accepted}
@@ -23,7 +23,6 @@ use Rattle.trialrun.specs.TrialRuns.{trialRun}
 use Rattle.trialrun.specs.FileRuns.{acceptedFile, refusedFile, fileRun}
 use Rattle.trialrun.specs.declared.FileRun.{FileRun}
 use Rattle.host.specs.Calls.{stepBytes, fileOffers, trialVerdictsChecks, trialVerdictsAnswer, trialVerdictsBuffer}
-use Rattle.host.specs.Internal.{smallSteps}
 use Rattle.host.proofs.StepBytes.{table-steps}
 use Rattle.host.proofs.VerdictBuffer.{roomy, short, call-refused, call-done}
 use Rattle.refusals.proofs.Answers as answers

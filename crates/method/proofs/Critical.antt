@@ -3,6 +3,7 @@
 --   critical-looser      c(K′) with k′ and e′ is at most c(K) with k ≤ k′ and e ≤ e′, where K lacks at most k′ - k columns of K′
 --   criticalValue-holds  c(K) of at least k columns is a value of the table, with plus zero for either zero
 --   atLeast-own          the observed row is counted
+--   criticalValue-keeps, putBack-keeps     what holds of every value and of plus zero holds of critical values
 --   putBack-reaches, putBack-under    putBack is no smaller than c of a set that some A with I holds, and no larger than a bound of them all
 use Prim.Native.Nat.{ℕ, _+_, _-_, _≤_, _<_}
 use native.Mathlib.Omega.{arith}
@@ -14,14 +15,14 @@ use lib.ListN.{length, getD, length-map}
 use lib.Dec.{ltb, leb, T, ltb→lt, lt→ltb, leb→le}
 use lib.Ieee.{Float, nan}
 use borrow.Author.Tests.{le-leb}
-use Rattle.order.specs.Order.{atMost, finite, withPlusZero}
+use Rattle.order.specs.Order.{plusZero, atMost, finite, withPlusZero}
 use Rattle.order.specs.Counting.{count, all}
 use Rattle.order.proofs.Booleans.{true-T, and-left, and-right, not-below}
-use Rattle.order.proofs.Keys.{key, atMost-key, withPlusZero-key}
+use Rattle.order.proofs.Keys.{key, atMost-key, zero-finite, withPlusZero-key}
 use Rattle.order.proofs.Counts.{count-some, all-getD, all-true, all-le, all-both, all-map, count-le, count-map}
-use Rattle.order.proofs.Rows.{Finite, soundRow, Sound, sound-length, sound-finite}
+use Rattle.order.proofs.Rows.{Finite, soundRow, Sound, sound-length, sound-finite, sound-all}
 use Rattle.select.specs.Rank.{kthLargest, mthSmallest}
-use Rattle.select.proofs.Ranks.{above, kthLargest-law, kthLargest-holds, kthLargest-ranks, kthLargest-finite, mthSmallest-above, mthSmallest-holds, mthSmallest-finite, largest-reaches}
+use Rattle.select.proofs.Ranks.{above, kthLargest-law, kthLargest-holds, kthLargest-ranks, kthLargest-keeps, mthSmallest-above, mthSmallest-holds, mthSmallest-keeps, largest-reaches}
 use Rattle.columns.specs.Columns.{Columns, size, _∪_, _∖_, within, choose}
 use Rattle.columns.proofs.PutBack.{within-less, size-less}
 use Rattle.columns.proofs.Sets.{within-length, within-all}
@@ -45,18 +46,18 @@ module _ (k : ℕ) (K : Columns) (row : List Float) (s : T (soundRow (length K) 
   unfolding kMax
   kMax-plain = kthLargest-ranks k (within K row) (within-all finite K row (sound-finite (length K) row s)) pos held .plain
 
-kMax-finite : (n k : ℕ) (K : Columns) (row : List Float) → T (soundRow n row) → T (finite (kMax k K row))
-unfolding kMax
-kMax-finite n k K row s = kthLargest-finite k (within K row) (within-all finite K row (sound-finite n row s))
-
 -- ---- c(K)
 
 -- the rows' k-max values
 abbrev pub tops : ℕ → List (List Float) → Columns → List Float
 tops k X K = map (λ row. kMax k K row) X
 
+tops-keep : (p : Float → Bool) → T (p plusZero) → (k : ℕ) (X : List (List Float)) (K : Columns) → T (all (all p) X) → T (all p (tops k X K))
+unfolding kMax
+tops-keep p z k X K h = rw (all-map (λ row. kMax k K row) p X) (all-le (all p) (λ row. p (kMax k K row)) X (λ row t. kthLargest-keeps p z k (within K row) (within-all p K row t)) h)
+
 pub tops-finite : (n k : ℕ) (X : List (List Float)) (K : Columns) → Sound n X → Finite (tops k X K)
-tops-finite n k X K s = rw (all-map (λ row. kMax k K row) finite X) (all-le (soundRow n) (λ row. finite (kMax k K row)) X (kMax-finite n k K) s)
+tops-finite n k X K s = tops-keep finite zero-finite k X K (sound-all n X s)
 
 module _ (n k e : ℕ) (X : List (List Float)) (s : Sound n X) (pos : 0 < k) (few : e < length X) where
   pub criticalValue-law : (K : Columns) (v : ℕ) → (v < key (criticalValue k e X K)) ↔ (e < count (λ row. ltb v (key (kMax k K row))) X)
@@ -80,9 +81,13 @@ module _ (n k e : ℕ) (X : List (List Float)) (s : Sound n X) (pos : 0 < k) (fe
       in-row : (row : List Float) → T (soundRow (length K) row) → T (all (λ x. p (withPlusZero x)) row) → T (p (withPlusZero (kMax k K row)))
       in-row row b u = rw (kMax-plain k K row b pos wide) (kMax-holds k K row b pos wide p u)
 
-pub criticalValue-finite : (n k e : ℕ) (X : List (List Float)) (K : Columns) → Sound n X → T (finite (criticalValue k e X K))
+-- what holds of every value of the table and of plus zero holds of every critical value
+pub criticalValue-keeps : (p : Float → Bool) → T (p plusZero) → (k e : ℕ) (X : List (List Float)) (K : Columns) → T (all (all p) X) → T (p (criticalValue k e X K))
 unfolding criticalValue
-criticalValue-finite n k e X K s = mthSmallest-finite (length X - e) (tops k X K) (tops-finite n k X K s)
+criticalValue-keeps p z k e X K h = mthSmallest-keeps p z (length X - e) (tops k X K) (tops-keep p z k X K h)
+
+pub criticalValue-finite : (n k e : ℕ) (X : List (List Float)) (K : Columns) → Sound n X → T (finite (criticalValue k e X K))
+criticalValue-finite n k e X K s = criticalValue-keeps finite zero-finite k e X K (sound-all n X s)
 
 -- ---- looser settings
 
@@ -109,10 +114,13 @@ module _ (n k e k′ e′ : ℕ) (X : List (List Float)) (s : Sound n X) (pos : 
 
 -- ---- the largest critical value with k - 1 columns put back
 
+sets-keep : (p : Float → Bool) → T (p plusZero) → (k e : ℕ) (X : List (List Float)) (A R : Columns) → T (all (all p) X) → T (all p (map (λ I. criticalValue k e X (A ∪ I)) (choose (k - 1) R)))
+sets-keep p z k e X A R h = rw (all-map (λ I. criticalValue k e X (A ∪ I)) p (choose (k - 1) R))
+    (all-le (λ _. true) (λ I. p (criticalValue k e X (A ∪ I))) (choose (k - 1) R) (λ I t. criticalValue-keeps p z k e X (A ∪ I) h) (all-true (choose (k - 1) R)))
+
 module _ (n k e : ℕ) (X : List (List Float)) (s : Sound n X) (A R : Columns) where
   pub sets-finite : Finite (map (λ I. criticalValue k e X (A ∪ I)) (choose (k - 1) R))
-  sets-finite = rw (all-map (λ I. criticalValue k e X (A ∪ I)) finite (choose (k - 1) R))
-      (all-le (λ _. true) (λ I. finite (criticalValue k e X (A ∪ I))) (choose (k - 1) R) (λ I t. criticalValue-finite n k e X (A ∪ I) s) (all-true (choose (k - 1) R)))
+  sets-finite = sets-keep finite zero-finite k e X A R (sound-all n X s)
 
   -- what some set reaches, the largest reaches
   pub putBack-reaches : (v : ℕ) → 0 < count (λ I. leb v (key (criticalValue k e X (A ∪ I)))) (choose (k - 1) R) → v ≤ key (putBack k e X A R)
@@ -129,9 +137,9 @@ module _ (n k e : ℕ) (X : List (List Float)) (s : Sound n X) (A R : Columns) w
       (all-le (λ I. leb (key (criticalValue k e X (A ∪ I))) v) (λ I. leb (key (withPlusZero (criticalValue k e X (A ∪ I)))) v) (choose (k - 1) R)
       (λ I u. rw (withPlusZero-key (criticalValue k e X (A ∪ I))) u) t)))
 
-  pub putBack-finite : T (finite (putBack k e X A R))
-  unfolding putBack
-  putBack-finite = kthLargest-finite 1 (map (λ I. criticalValue k e X (A ∪ I)) (choose (k - 1) R)) sets-finite
+pub putBack-keeps : (p : Float → Bool) → T (p plusZero) → (k e : ℕ) (X : List (List Float)) (A R : Columns) → T (all (all p) X) → T (p (putBack k e X A R))
+unfolding putBack
+putBack-keeps p z k e X A R h = kthLargest-keeps p z 1 (map (λ I. criticalValue k e X (A ∪ I)) (choose (k - 1) R)) (sets-keep p z k e X A R h)
 
 -- ---- counts
 

@@ -187,12 +187,16 @@ pub zero-finite : T (finite plusZero)
 unfolding finite fits
 zero-finite = tt
 
+-- what holds of a value and of plus zero holds of it with plus zero for either zero
+pub withPlusZero-keeps : (p : Float → Bool) → T (p plusZero) → (x : Float) → T (p x) → T (p (withPlusZero x))
+unfolding withPlusZero
+withPlusZero-keeps p z nan t = t
+withPlusZero-keeps p z (inf s) t = t
+withPlusZero-keeps p z (fin s zero e) t = z
+withPlusZero-keeps p z (fin s (suc m) e) t = t
+
 pub withPlusZero-finite : (x : Float) → T (finite x) → T (finite (withPlusZero x))
-unfolding withPlusZero finite fits
-withPlusZero-finite nan p = absurd p
-withPlusZero-finite (inf s) p = absurd p
-withPlusZero-finite (fin s zero e) p = tt
-withPlusZero-finite (fin s (suc m) e) p = p
+withPlusZero-finite = withPlusZero-keeps finite zero-finite
 
 zero-mag : (f : Format) (e : ℤ) → mag f 0 e ≡ 0
 zero-mag f e = rw (zero-mul (up e), zero-mul (2 ^ low f)) (native.Mathlib.Nat.zero-div (down e))

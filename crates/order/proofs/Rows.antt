@@ -15,6 +15,7 @@ use Rattle.order.specs.Order.{finite}
 use Rattle.order.specs.Counting.{all}
 use Rattle.order.specs.Lists.{rowsOf}
 use Rattle.order.proofs.Booleans.{and-left, and-right, and-both}
+use Rattle.order.proofs.Counts.{all-le}
 use Rattle.order.proofs.Lists.{all-take, all-drop}
 
 abbrev pub Finite : List Float → Type 0
@@ -31,6 +32,9 @@ sound-length n row t = eqb→eq (length row) n (and-left (eqb (length row) n) (a
 
 pub sound-finite : (n : ℕ) (row : List Float) → T (soundRow n row) → Finite row
 sound-finite n row t = and-right (eqb (length row) n) (all finite row) t
+
+pub sound-all : (n : ℕ) (X : List (List Float)) → Sound n X → T (all (all finite) X)
+sound-all n X s = all-le (soundRow n) (all finite) X (sound-finite n) s
 
 pub sound-row : (n : ℕ) (row : List Float) → length row ≡ n → Finite row → T (soundRow n row)
 sound-row n row h f = and-both (eqb (length row) n) (all finite row) (subst (λ (i : ℕ). T (eqb i n)) (sym h) (eqb-refl n)) f

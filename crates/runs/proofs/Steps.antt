@@ -1,5 +1,6 @@
 -- What one step does, and how a fact passes from step to step.
 --   critical-first, critical-later     the critical value of step 1, and of a later step
+--   critical-keeps       what holds of every value and of plus zero holds of the critical value
 --   next-rejected        the rejected set grows by the columns that the step rejects
 --   ended-exactly        the stopping rule: a step ends the run exactly where it rejected nothing, fewer than k are rejected, or none is left
 --   going-on             what holds where a step has not ended the run
@@ -14,16 +15,18 @@ use lib.ListN.{length, getD, length-map}
 use lib.Dec.{ltb, eqb, T}
 use lib.Ieee.{Float}
 use borrow.Author.Tests.{ltb-true, eqb-true, ltb-false, eqb-false, lt-ltb, eq-eqb}
-use Rattle.order.specs.Order.{finite}
+use Rattle.order.specs.Order.{plusZero, finite}
+use Rattle.order.specs.Counting.{all}
+use Rattle.order.proofs.Keys.{zero-finite}
 use Rattle.order.proofs.Booleans.{and-left}
 use Rattle.order.proofs.Counts.{all-getD}
-use Rattle.order.proofs.Rows.{Finite, Sound, soundRow, sound-length, sound-finite}
+use Rattle.order.proofs.Rows.{Finite, Sound, soundRow, sound-length, sound-finite, sound-all}
 use Rattle.refusals.proofs.Limits.{positive, or-none}
 use Rattle.columns.specs.Columns.{Columns, size, _∪_, _∩_, _∖_, over, inSet, columnsOf, maskOf}
 use Rattle.columns.proofs.Sets.{has, length-∪, length-∩, length-∖, has-∩, has-∖}
 use Rattle.columns.proofs.Masks.{columnsOf-length, columnsOf-maskOf, has-columnsOf}
 use Rattle.method.specs.Method.{criticalValue, putBack}
-use Rattle.method.proofs.Critical.{criticalValue-finite, putBack-finite}
+use Rattle.method.proofs.Critical.{criticalValue-keeps, putBack-keeps}
 use Rattle.runs.specs.Stepdown.{liveSet, rejectedSet, leftOver, stepCritical, criticalOf, newlyRejected, endsAfter, next, step, stepsFrom}
 use Rattle.runs.specs.declared.State.{State}
 use Rattle.runs.specs.declared.Step.{Step}
@@ -118,6 +121,15 @@ module _ (X : List (List Float)) (r : State) where
   unfolding newlyRejected
   newly-is = refl
 
+  -- what holds of every value of the table and of plus zero holds of the critical value
+  pub critical-keeps : (p : Float → Bool) → T (p plusZero) → T (all (all p) X) → T (p (criticalOf X r))
+  unfolding criticalOf stepCritical
+  critical-keeps p z h = go (r .steps)
+    where
+      go : (s : ℕ) → T (p (stepCritical (r .k) (r .e) X (liveSet r) (rejectedSet r) s))
+      go zero = criticalValue-keeps p z (r .k) (r .e) X (liveSet r) h
+      go (suc s) = putBack-keeps p z (r .k) (r .e) X (leftOver r) (rejectedSet r) h
+
   ended-rule : next X r .ended ≡ endsAfter (r .k) (liveSet r) (newlyRejected X r) (rejectedSet r ∪ newlyRejected X r)
   unfolding next
   ended-rule = refl
@@ -155,12 +167,7 @@ module _ (X : List (List Float)) (r : State) where
     next-rejected = ap (λ (m : ℕ). columnsOf m (maskOf (rejectedSet r ∪ newlyRejected X r))) (sym (length-∪ (rejectedSet r) (newlyRejected X r) both-length ∙ rejected-length r)) ∙ columnsOf-maskOf (rejectedSet r ∪ newlyRejected X r)
 
     pub critical-finite : T (finite (criticalOf X r))
-    unfolding criticalOf stepCritical
-    critical-finite = go (r .steps)
-      where
-        go : (s : ℕ) → T (finite (stepCritical (r .k) (r .e) X (liveSet r) (rejectedSet r) s))
-        go zero = criticalValue-finite (r .columns) (r .k) (r .e) X (liveSet r) sound
-        go (suc s) = putBack-finite (r .columns) (r .k) (r .e) X sound (leftOver r) (rejectedSet r)
+    critical-finite = critical-keeps finite zero-finite (sound-all (r .columns) X sound)
 
     -- the rule is applied to what is rejected and left after the step
     ended-is : next X r .ended ≡ endsAfter (r .k) (liveSet r) (newlyRejected X r) (rejectedSet (next X r))

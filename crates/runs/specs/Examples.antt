@@ -2,8 +2,9 @@
 --   ⁺ n, ⁻ n, step        how values and records are written
 --   Answer, Example       what can be asked; what is asked and what is told
 --   W, P                  document 01's tables, row after row
+--   whole, ofTable, ofP, anyRejected     what is asked: a full run, that of a table, c(K) of P, whether any column is rejected
 --   examples              all of them, one after the other
--- W's table stands here row by row; crate trial shows that it is the table of the trial W.
+-- W's table stands here row by row; crate trialrun shows that it is the table of the trial W.
 use Prim.Native.Nat.{ℕ}
 use mathlib.Core.Bool.{Bool, true, false}
 use mathlib.Core.List.{List, [], _∷_}

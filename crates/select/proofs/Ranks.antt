@@ -12,10 +12,10 @@ use lib.ListN.{length}
 use lib.Dec.{ltb, leb, eqb, T, ltb→lt, lt→ltb, leb→le, le→leb, eqb→eq}
 use lib.Ieee.{Float}
 use borrow.Author.Tests.{lt-ltb, le-ltb, le-leb, lt-leb, eq-eqb, ne-eqb}
-use Rattle.order.specs.Order.{smaller, atMost, finite, withPlusZero}
+use Rattle.order.specs.Order.{plusZero, smaller, atMost, finite, withPlusZero}
 use Rattle.order.specs.Counting.{bit, count, all}
 use Rattle.order.proofs.Booleans.{same-test, true-T, and-left, and-right, and-both, not-below, not-within, leb-not}
-use Rattle.order.proofs.Keys.{key, smaller-key, atMost-key, withPlusZero-key, withPlusZero-same, withPlusZero-twice, withPlusZero-finite, zero-finite}
+use Rattle.order.proofs.Keys.{key, smaller-key, atMost-key, withPlusZero-key, withPlusZero-same, withPlusZero-twice, withPlusZero-finite, withPlusZero-keeps}
 use Rattle.order.proofs.Rows.{Finite}
 use Rattle.order.proofs.Counts.{count-le, count-same, count-same-all, count-le-all, count-not, count-both, count-length}
 use Rattle.select.specs.Rank.{first, fromTop, fromBottom, kthLargest, mthSmallest}
@@ -232,24 +232,26 @@ mthSmallest-above n e xs fs l h v = (λ g. omega (arith, keys-upTo xs v, law .0 
     law : (v < key (mthSmallest (n - e) xs)) ↔ (count (λ x. leb (key x) v) xs < n - e)
     law = mthSmallest-law (n - e) xs fs (omega arith) (omega arith) v
 
--- ---- of finite values, whatever the rank
+-- ---- whatever the rank
 
-first-finite : (p : Float → Bool) (xs : List Float) → Finite xs → T (finite (first p xs))
-unfolding first all
-first-finite p [] fs = zero-finite
-first-finite p (x ∷ xs) fs = go (p x) (first-finite p xs (and-right (finite x) (all finite xs) fs))
-  where
-    go : (b : Bool) → T (finite (first p xs)) → T (finite (cond b x (first p xs)))
-    go true ih = and-left (finite x) (all finite xs) fs
-    go false ih = ih
+-- what holds of every member and of plus zero holds of the selected value
+module _ (p : Float → Bool) (z : T (p plusZero)) where
+  first-keeps : (q : Float → Bool) (xs : List Float) → T (all p xs) → T (p (first q xs))
+  unfolding first all
+  first-keeps q [] h = z
+  first-keeps q (x ∷ xs) h = go (q x) (first-keeps q xs (and-right (p x) (all p xs) h))
+    where
+      go : (b : Bool) → T (p (first q xs)) → T (p (cond b x (first q xs)))
+      go true ih = and-left (p x) (all p xs) h
+      go false ih = ih
 
-pub kthLargest-finite : (k : ℕ) (xs : List Float) → Finite xs → T (finite (kthLargest k xs))
-unfolding kthLargest
-kthLargest-finite k xs fs = withPlusZero-finite (first (fromTop k xs) xs) (first-finite (fromTop k xs) xs fs)
+  pub kthLargest-keeps : (k : ℕ) (xs : List Float) → T (all p xs) → T (p (kthLargest k xs))
+  unfolding kthLargest
+  kthLargest-keeps k xs h = withPlusZero-keeps p z (first (fromTop k xs) xs) (first-keeps (fromTop k xs) xs h)
 
-pub mthSmallest-finite : (m : ℕ) (xs : List Float) → Finite xs → T (finite (mthSmallest m xs))
-unfolding mthSmallest
-mthSmallest-finite m xs fs = withPlusZero-finite (first (fromBottom m xs) xs) (first-finite (fromBottom m xs) xs fs)
+  pub mthSmallest-keeps : (m : ℕ) (xs : List Float) → T (all p xs) → T (p (mthSmallest m xs))
+  unfolding mthSmallest
+  mthSmallest-keeps m xs h = withPlusZero-keeps p z (first (fromBottom m xs) xs) (first-keeps (fromBottom m xs) xs h)
 
 -- the largest reaches what some member reaches
 pub largest-reaches : (xs : List Float) → Finite xs → (v : ℕ) → 0 < from v xs → v ≤ key (kthLargest 1 xs)

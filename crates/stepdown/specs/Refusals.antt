@@ -4,7 +4,7 @@
 --   tableChecks, tableRefusal           of a table: 4, 3, 9, 10, 11
 --   tableRunChecks, tableRunRefusal     of a full run of a table, with a lent work buffer: the same, then 12
 --   beginChecks, beginRefusal           of beginning a run: 4, 3, 10
---   badFigures r, progressClauses r, spoiled r     the condition of 14: one of its clauses holds
+--   badFigures r, progressClauses r, spoiled r     the condition of 14: `any` of its clauses holds
 --   stepChecks, stepRefusal             of a step: 14, 13, 9, 11, 12
 use Prim.Native.Nat.{ℕ, _*_, _^_}
 use mathlib.Core.Bool.{Bool, false, not, _&&_, _||_}

@@ -1,5 +1,6 @@
 -- Runs that are taken step by step. Definitions only.
 --   StepTaken            an accepted step: the run that it hands back, and its record
+--   onward s more        the steps that an answer to a step makes: it and those that follow, or none
 --   stepped n t places r          the steps that one gets by asking for steps from r on until one is refused, at most n of them
 --   steppedRecords n t places r   their records
 --   lastRun r ss         the run that is held after them

@@ -74,7 +74,7 @@ pub sums-small : (t : Trial) (g : ℕ) → Accepted t → T (all (λ ds. leb (na
 unfolding byOffer
 sums-small t g acc = all-le (okOffer (t .pairs)) (λ ds. leb (natAbs (signedSum g ds)) (2 ^ 53)) (byOffer t) (λ ds u. le→leb (natAbs (signedSum g ds)) (2 ^ 53) (sum-small (t .pairs) g ds (acc .pairs-most) u)) (offers-ok (t .offers) (t .pairs) (t .differences) (acc .in-range))
 
--- what holds of fullMask whole number up to 2^53 as an f64 holds of a row's values
+-- what holds of every whole number up to 2^53 as an f64 holds of a row's values
 pub rowOf-all : (p : Float → Bool) → ((z : ℤ) → natAbs z ≤ 2 ^ 53 → T (p (ofInt binary64 z))) → (t : Trial) (g : ℕ) → Accepted t → T (all p (rowOf t g))
 unfolding rowOf
 rowOf-all p h t g acc =

@@ -1,4 +1,4 @@
--- Definitions that only the private functions of this crate cite. Definitions only; a reader of the promises needs none of them.
+-- Definitions that only the private functions of this crate and of trialfile cite. Definitions only; a reader of the promises needs none of them.
 --   earlierOf i cs       the first i numbers, the last of them first
 use Prim.Native.Nat.{ℕ, zero, suc}
 use mathlib.Core.List.{List, [], _∷_}

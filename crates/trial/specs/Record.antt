@@ -1,4 +1,4 @@
--- What fullMask value of the record's type has. Definitions only.
+-- What every value of the record's type has. Definitions only.
 --   ArrayLengths t     its arrays have 16, 16 and 144 places
 use mathlib.Core.Path.{_≡_}
 use lib.ListN.{length}

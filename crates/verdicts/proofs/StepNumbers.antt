@@ -1,8 +1,6 @@
 -- How large a rejecting step can be: a run takes at most 32 steps.
---   smallSteps ds      no rejecting step is above 32
 --   verdict-step       the step that rejects a column of a run that has taken none is at most 32
 --   run-steps          so is that of every verdict of a full run
---   refused-steps      and of a refused one
 use Prim.Native.Nat.{ℕ, zero, suc, _+_, _-_, _≤_}
 use native.Mathlib.Omega.{arith}
 use mathlib.Core.Path.{_≡_, sym, subst}
@@ -19,7 +17,8 @@ use Rattle.order.proofs.Counts.{all-append, all-map}
 use Rattle.order.proofs.Lists.{all-tabulate, all-replicate}
 use Rattle.columns.specs.Columns.{inSet}
 use Rattle.runs.specs.Stepdown.{next, recordOf, stepsFrom, verdictFrom, verdictOf, stepsOf, fullRun}
-use Rattle.runs.specs.FullRuns.{decision, refusedRun, acceptedRun, rejectingStep}
+use Rattle.runs.specs.FullRuns.{decision, acceptedRun, rejectingStep}
+use Rattle.verdicts.specs.Verdicts.{smallSteps}
 use Rattle.runs.specs.declared.State.{State}
 use Rattle.runs.specs.declared.Step.{Step}
 use Rattle.runs.specs.declared.Verdict.the-variants.{Rejected, Kept}
@@ -56,11 +55,8 @@ verdict-step X r j h = verdict-most 32 plusZero (stepsOf X r) j (steps-numbered 
 
 -- ---- what a full run answers
 
-abbrev pub small : Decision → Bool
+abbrev small : Decision → Bool
 small d = leb (rejectingStep (d .verdict)) 32
-
-abbrev pub smallSteps : List Decision → Bool
-smallSteps ds = all small ds
 
 pub run-steps : (X : List (List Float)) (r : State) → r .steps ≡ 0 → T (smallSteps (acceptedRun (fullRun X r) .decisions))
 unfolding acceptedRun fullRun
@@ -70,6 +66,3 @@ run-steps X r h =
     all-append small (map decision vs) (replicate (32 - length (map decision vs)) (decision (Kept plusZero)))
     (subst (λ (x : Bool). T x) (sym (all-map decision small vs)) (all-tabulate (λ v. small (decision v)) (r .columns) (λ j. verdictOf ss j) (λ j. le→leb (rejectingStep (verdictOf ss j)) 32 (verdict-step X r j h))))
     (all-replicate small (32 - length (map decision vs)) (decision (Kept plusZero)) tt)
-
-pub refused-steps : (n : ℕ) → T (smallSteps (refusedRun n .decisions))
-refused-steps n = all-replicate small 32 (decision (Kept plusZero)) tt
