@@ -1,6 +1,6 @@
 -- Laws of i32 values: a value d and the number d + 2^31, each from the other.
---   wide-fits, plus-fits, plus-casts     of a value d
---   less-fits, less-casts                of 32 bits of a number n
+--   plus-fits, plus-casts     of a value d
+--   less-fits, less-casts     of 32 bits of a number n
 use Prim.Native.Nat.{ℕ, suc, _+_, _-_, _<_, _^_, _%_}
 use native.Mathlib.Omega.{arith}
 use mathlib.Core.Path.{_≡_, refl, _∙_}
@@ -12,6 +12,7 @@ use borrow.Author.Tests.{lt-ltb, le-ltb, ltb-true, ltb-false}
 use mir.Syntax.{w32, w64}
 use mir.Val.{Fits, SFits, toZ, ofZ}
 use mir.ValLaws.{toZ-ofZ}
+use Rattle.order.proofs.Signed.{wide-is}
 
 abbrev number : ℤ → ℕ
 number (pos n) = n + 2147483648
@@ -26,20 +27,11 @@ number-small (pos n) h = omega arith
 number-small (negsuc n) h = omega arith
 
 module _ (d : ℤ) (f : SFits w32 d) where
-  same : toZ w32 (ofZ w32 d) ≡ d
-  same = toZ-ofZ w32 d f
-
-  pub wide-fits : SFits w64 (toZ w32 (ofZ w32 d))
-  wide-fits = rw same (record { sfits = omega (arith, f .sfits) })
-
-  widened : toZ w64 (ofZ w64 (toZ w32 (ofZ w32 d))) ≡ d
-  widened = toZ-ofZ w64 (toZ w32 (ofZ w32 d)) wide-fits ∙ same
-
   pub plus-fits : SFits w64 (toZ w64 (ofZ w64 (toZ w32 (ofZ w32 d))) +ℤ pos 2147483648)
-  plus-fits = rw (widened, number-is d (f .sfits)) (record { sfits = omega (arith, number-small d (f .sfits)) })
+  plus-fits = rw (wide-is d f, number-is d (f .sfits)) (record { sfits = omega (arith, number-small d (f .sfits)) })
 
   plus : toZ w64 (ofZ w64 (toZ w64 (ofZ w64 (toZ w32 (ofZ w32 d))) +ℤ pos 2147483648)) ≡ pos (number d)
-  plus = toZ-ofZ w64 _ plus-fits ∙ rw widened (number-is d (f .sfits))
+  plus = toZ-ofZ w64 _ plus-fits ∙ rw (wide-is d f) (number-is d (f .sfits))
 
   pub plus-casts : T (nonNeg (toZ w64 (ofZ w64 (toZ w64 (ofZ w64 (toZ w32 (ofZ w32 d))) +ℤ pos 2147483648)))) × Fits w64 (natAbs (toZ w64 (ofZ w64 (toZ w64 (ofZ w64 (toZ w32 (ofZ w32 d))) +ℤ pos 2147483648))))
   plus-casts = rw plus (tt, record { fits = omega (arith, number-small d (f .sfits)) })

@@ -1,6 +1,7 @@
 -- An i32 and 2^31 more, as a usize.
 use borrow.Author.Needs.{needs}
-use Rattle.vectors.proofs.Signed.{wide-fits, plus-fits, plus-casts}
+use Rattle.order.proofs.Signed.{wide-fits}
+use Rattle.vectors.proofs.Signed.{plus-fits, plus-casts}
 use Rattle.vectors.proofs.trials.shifted.Statement.{statement}
 use Rattle.vectors.proofs.trials.shifted.Tie as tie
 
