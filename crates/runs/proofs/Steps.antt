@@ -4,6 +4,7 @@
 --   next-rejected        the rejected set grows by the columns that the step rejects
 --   ended-exactly        the stopping rule: a step ends the run exactly where it rejected nothing, fewer than k are rejected, or none is left
 --   going-on             what holds where a step has not ended the run
+--   takes-a-step         a run that has not ended takes a step, whatever e is
 --   along                a fact that each step keeps holds after every step of a run
 use Prim.Native.Nat.{ℕ, zero, suc, _≤_, _<_}
 use native.Mathlib.Omega.{arith}
@@ -27,7 +28,7 @@ use Rattle.columns.proofs.Sets.{has, length-∪, length-∩, length-∖, has-�
 use Rattle.columns.proofs.Masks.{columnsOf-length, columnsOf-maskOf, has-columnsOf}
 use Rattle.method.specs.Method.{criticalValue, putBack}
 use Rattle.method.proofs.Critical.{criticalValue-keeps, putBack-keeps}
-use Rattle.runs.specs.Stepdown.{liveSet, rejectedSet, leftOver, stepCritical, criticalOf, newlyRejected, endsAfter, next, step, stepsFrom}
+use Rattle.runs.specs.Stepdown.{liveSet, rejectedSet, leftOver, stepCritical, criticalOf, newlyRejected, endsAfter, next, step, stepsFrom, stepsOf}
 use Rattle.runs.specs.declared.State.{State}
 use Rattle.runs.specs.declared.Step.{Step}
 
@@ -53,6 +54,12 @@ same-length r = live-length r ∙ sym (rejected-length r)
 
 pub left-length : (r : State) → length (leftOver r) ≡ r .columns
 left-length r = length-∖ (liveSet r) (rejectedSet r) (same-length r) ∙ live-length r
+
+-- ---- the first of the steps to come
+
+pub takes-a-step : (X : List (List Float)) (r : State) → r .ended ≡ false → stepsOf X r ≡ step X r ∷ stepsFrom 31 (next X r .ended) X (next X r)
+unfolding stepsOf stepsFrom
+takes-a-step X r h = rw h refl
 
 -- ---- the stopping rule
 
