@@ -1,6 +1,6 @@
 -- Sets of columns bit by bit: what a scan from column 0 on has seen, and what is still to come.
 --   size-in, size-past, size-done     a count of the columns
---   mark-in, mark-past, mark-done     a mask of the columns whose value is above v
+--   above-in, above-past, above-done     a mask of the columns whose value is above v
 use Prim.Native.Nat.{ℕ, suc, _+_, _-_, _*_, _/_, _%_, _^_, _≤_, _<_}
 use native.Mathlib.Omega.{arith}
 use native.Mathlib.Numerals.{add-one}
@@ -43,47 +43,47 @@ size-start cols s = let e : cols - 0 ≡ cols = omega arith in omega (arith, ap 
 -- ---- the columns above v
 
 -- the mask that is still to come, from column i on
-unfoldable pub toMark : List Float → ℕ → ℕ → Float → ℕ
-toMark row i s v = maskOf (columnsOf (length row - i) s ∩ over v (drop i row))
+unfoldable pub aboveFrom : List Float → ℕ → ℕ → Float → ℕ
+aboveFrom row i s v = maskOf (columnsOf (length row - i) s ∩ over v (drop i row))
 
 module _ (row : List Float) (i s : ℕ) (v : Float) (h : i < length row) where
-  mark-is : toMark row i s v ≡ bit (eqb (s % 2) 1 && smaller v (getD row i nan)) + 2 * toMark row (i + 1) (s / 2) v
-  unfolding toMark _∩_ zipWith over maskOf
-  mark-is = ap₂ (λ (K : Columns) (r : List Float). maskOf (K ∩ over v r)) (split (length row) i s h (eqb (s % 2) 1) refl) (drop-cons row i nan h ∙ ap (λ (n : ℕ). getD row i nan ∷ drop n row) (sym (add-one i)))
+  above-is : aboveFrom row i s v ≡ bit (eqb (s % 2) 1 && smaller v (getD row i nan)) + 2 * aboveFrom row (i + 1) (s / 2) v
+  unfolding aboveFrom _∩_ zipWith over maskOf
+  above-is = ap₂ (λ (K : Columns) (r : List Float). maskOf (K ∩ over v r)) (split (length row) i s h (eqb (s % 2) 1) refl) (drop-cons row i nan h ∙ ap (λ (n : ℕ). getD row i nan ∷ drop n row) (sym (add-one i)))
 
-  carry : (m a : ℕ) → m + 2 ^ i * (a + 2 * toMark row (i + 1) (s / 2) v) ≡ m + 2 ^ i * a + 2 ^ (i + 1) * toMark row (i + 1) (s / 2) v
+  carry : (m a : ℕ) → m + 2 ^ i * (a + 2 * aboveFrom row (i + 1) (s / 2) v) ≡ m + 2 ^ i * a + 2 ^ (i + 1) * aboveFrom row (i + 1) (s / 2) v
   carry m a = let p : 2 ^ (i + 1) ≡ 2 ^ i * 2 = ap (λ (n : ℕ). 2 ^ n) (add-one i) ∙ pow-suc 2 i in
-      let q : 2 ^ i * (a + 2 * toMark row (i + 1) (s / 2) v) ≡ 2 ^ i * a + 2 ^ i * (2 * toMark row (i + 1) (s / 2) v) = mul-add (2 ^ i) a (2 * toMark row (i + 1) (s / 2) v) in
-      let r : 2 ^ i * (2 * toMark row (i + 1) (s / 2) v) ≡ 2 ^ (i + 1) * toMark row (i + 1) (s / 2) v = sym (mul-assoc (2 ^ i) 2 (toMark row (i + 1) (s / 2) v)) ∙ ap (λ (n : ℕ). n * toMark row (i + 1) (s / 2) v) (sym p) in
+      let q : 2 ^ i * (a + 2 * aboveFrom row (i + 1) (s / 2) v) ≡ 2 ^ i * a + 2 ^ i * (2 * aboveFrom row (i + 1) (s / 2) v) = mul-add (2 ^ i) a (2 * aboveFrom row (i + 1) (s / 2) v) in
+      let r : 2 ^ i * (2 * aboveFrom row (i + 1) (s / 2) v) ≡ 2 ^ (i + 1) * aboveFrom row (i + 1) (s / 2) v = sym (mul-assoc (2 ^ i) 2 (aboveFrom row (i + 1) (s / 2) v)) ∙ ap (λ (n : ℕ). n * aboveFrom row (i + 1) (s / 2) v) (sym p) in
       omega arith
 
-  mark-turn : (b : Bool) (m t : ℕ) → (eqb (s % 2) 1 && smaller v (getD row i nan)) ≡ b → m + 2 ^ i * toMark row i s v ≡ t → m + 2 ^ i * bit b + 2 ^ (i + 1) * toMark row (i + 1) (s / 2) v ≡ t
-  mark-turn b m t e g =
-      sym (carry m (bit b)) ∙ ap (λ (x : ℕ). m + 2 ^ i * x) (sym (mark-is ∙ ap (λ (d : Bool). bit d + 2 * toMark row (i + 1) (s / 2) v) e)) ∙ g
+  above-turn : (b : Bool) (m t : ℕ) → (eqb (s % 2) 1 && smaller v (getD row i nan)) ≡ b → m + 2 ^ i * aboveFrom row i s v ≡ t → m + 2 ^ i * bit b + 2 ^ (i + 1) * aboveFrom row (i + 1) (s / 2) v ≡ t
+  above-turn b m t e g =
+      sym (carry m (bit b)) ∙ ap (λ (x : ℕ). m + 2 ^ i * x) (sym (above-is ∙ ap (λ (d : Bool). bit d + 2 * aboveFrom row (i + 1) (s / 2) v) e)) ∙ g
 
-  pub mark-in : (m n p t : ℕ) → (eqb (s % 2) 1 && smaller v (getD row i nan)) ≡ true → p ≡ 2 ^ i → n ≡ m + p → m + 2 ^ i * toMark row i s v ≡ t → n + 2 ^ (i + 1) * toMark row (i + 1) (s / 2) v ≡ t
-  mark-in m n p t e q r g = omega (arith, mark-turn true m t e g, mul-one (2 ^ i))
+  pub above-in : (m n p t : ℕ) → (eqb (s % 2) 1 && smaller v (getD row i nan)) ≡ true → p ≡ 2 ^ i → n ≡ m + p → m + 2 ^ i * aboveFrom row i s v ≡ t → n + 2 ^ (i + 1) * aboveFrom row (i + 1) (s / 2) v ≡ t
+  above-in m n p t e q r g = omega (arith, above-turn true m t e g, mul-one (2 ^ i))
 
-  pub mark-past : (m n t : ℕ) → (eqb (s % 2) 1 && smaller v (getD row i nan)) ≡ false → n ≡ m → m + 2 ^ i * toMark row i s v ≡ t → n + 2 ^ (i + 1) * toMark row (i + 1) (s / 2) v ≡ t
-  mark-past m n t e r g = omega (arith, mark-turn false m t e g, mul-zero (2 ^ i))
+  pub above-past : (m n t : ℕ) → (eqb (s % 2) 1 && smaller v (getD row i nan)) ≡ false → n ≡ m → m + 2 ^ i * aboveFrom row i s v ≡ t → n + 2 ^ (i + 1) * aboveFrom row (i + 1) (s / 2) v ≡ t
+  above-past m n t e r g = omega (arith, above-turn false m t e g, mul-zero (2 ^ i))
 
-pub mark-done : (row : List Float) (i s m t : ℕ) (v : Float) → length row ≤ i → m + 2 ^ i * toMark row i s v ≡ t → m ≡ t
-unfolding toMark columnsOf _∩_ zipWith maskOf
-mark-done row i s m t v h g = let e : length row - i ≡ 0 = omega arith in omega (arith, mul-zero (2 ^ i), ap (λ (n : ℕ). 2 ^ i * maskOf (columnsOf n s ∩ over v (drop i row))) e)
+pub above-done : (row : List Float) (i s m t : ℕ) (v : Float) → length row ≤ i → m + 2 ^ i * aboveFrom row i s v ≡ t → m ≡ t
+unfolding aboveFrom columnsOf _∩_ zipWith maskOf
+above-done row i s m t v h g = let e : length row - i ≡ 0 = omega arith in omega (arith, mul-zero (2 ^ i), ap (λ (n : ℕ). 2 ^ i * maskOf (columnsOf n s ∩ over v (drop i row))) e)
 
-pub mark-start : (row : List Float) (s : ℕ) (v : Float) → 0 + 2 ^ 0 * toMark row 0 s v ≡ maskOf (columnsOf (length row) s ∩ over v row)
-unfolding toMark
-mark-start row s v = let e : length row - 0 ≡ length row = omega arith in omega (arith, ap (λ (n : ℕ). maskOf (columnsOf n s ∩ over v row)) e)
+pub above-start : (row : List Float) (s : ℕ) (v : Float) → 0 + 2 ^ 0 * aboveFrom row 0 s v ≡ maskOf (columnsOf (length row) s ∩ over v row)
+unfolding aboveFrom
+above-start row s v = let e : length row - 0 ≡ length row = omega arith in omega (arith, ap (λ (n : ℕ). maskOf (columnsOf n s ∩ over v row)) e)
 
 -- one bit more still fits
-pub mark-fits : (i n m p : ℕ) → i < n → n ≤ 32 → m < 2 ^ i → p ≡ 2 ^ i → m + p < 2 ^ 32
-mark-fits i n m p h k l e = let d : i + 1 ≤ 32 = omega arith in let q : 2 ^ (i + 1) ≤ 2 ^ 32 = pow-mono d in let r : 2 ^ (i + 1) ≡ 2 ^ i * 2 = ap (λ (x : ℕ). 2 ^ x) (add-one i) ∙ pow-suc 2 i in omega arith
+pub above-fits : (i n m p : ℕ) → i < n → n ≤ 32 → m < 2 ^ i → p ≡ 2 ^ i → m + p < 2 ^ 32
+above-fits i n m p h k l e = let d : i + 1 ≤ 32 = omega arith in let q : 2 ^ (i + 1) ≤ 2 ^ 32 = pow-mono d in let r : 2 ^ (i + 1) ≡ 2 ^ i * 2 = ap (λ (x : ℕ). 2 ^ x) (add-one i) ∙ pow-suc 2 i in omega arith
 
-pub mark-room : (i m n p : ℕ) → m < 2 ^ i → p ≡ 2 ^ i → n ≡ m + p → n < 2 ^ (i + 1)
-mark-room i m n p l e f = let r : 2 ^ (i + 1) ≡ 2 ^ i * 2 = ap (λ (x : ℕ). 2 ^ x) (add-one i) ∙ pow-suc 2 i in omega arith
+pub above-room : (i m n p : ℕ) → m < 2 ^ i → p ≡ 2 ^ i → n ≡ m + p → n < 2 ^ (i + 1)
+above-room i m n p l e f = let r : 2 ^ (i + 1) ≡ 2 ^ i * 2 = ap (λ (x : ℕ). 2 ^ x) (add-one i) ∙ pow-suc 2 i in omega arith
 
-pub mark-keep : (i m n : ℕ) → m < 2 ^ i → n ≡ m → n < 2 ^ (i + 1)
-mark-keep i m n l e = let r : 2 ^ (i + 1) ≡ 2 ^ i * 2 = ap (λ (x : ℕ). 2 ^ x) (add-one i) ∙ pow-suc 2 i in omega arith
+pub above-keep : (i m n : ℕ) → m < 2 ^ i → n ≡ m → n < 2 ^ (i + 1)
+above-keep i m n l e = let r : 2 ^ (i + 1) ≡ 2 ^ i * 2 = ap (λ (x : ℕ). 2 ^ x) (add-one i) ∙ pow-suc 2 i in omega arith
 
 -- ---- all columns
 

@@ -12,7 +12,8 @@ use Rattle.refusals.specs.Answers.{Checks, firstRefusal}
 use Rattle.refusals.specs.Buffers.{tooShort, written}
 use Rattle.refusals.proofs.Answers.{answer-map, first-decides, first-short}
 use Rattle.runs.specs.FullRuns.{acceptedRun}
-use Rattle.verdicts.specs.Verdicts.{rejectedCount, smallSteps}
+use Rattle.verdicts.specs.Verdicts.{rejectedCount}
+use Rattle.verdicts.specs.Internal.{smallSteps}
 use Rattle.trial.specs.Exchange.{rowTotal, tableOf}
 use Rattle.trial.specs.declared.Trial.{Trial}
 use Rattle.trial.proofs.Accepted.{accepted}

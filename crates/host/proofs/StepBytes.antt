@@ -21,7 +21,7 @@ use Rattle.runs.specs.declared.Decision.{Decision}
 use Rattle.runs.specs.declared.Verdict.the-variants.{Kept}
 use Rattle.verdicts.proofs.StepNumbers.{run-steps}
 use Rattle.host.specs.Calls.{stepBytes}
-use Rattle.verdicts.specs.Verdicts.{smallSteps}
+use Rattle.verdicts.specs.Internal.{smallSteps}
 
 -- the rejecting step of a verdict in its struct
 abbrev pub stepOf : Decision → ℕ

@@ -19,7 +19,8 @@ use Rattle.runs.specs.declared.FullRun.{FullRun}
 use Rattle.stepdown.specs.Refusals.{tableChecks, tableRefusal, tableRunChecks, tableRunRefusal}
 use Rattle.stepdown.specs.Answers.{fullAnswer, fullWork}
 use Rattle.stepdown.proofs.Accepted.{accepted, table-accepted, table-room}
-use Rattle.verdicts.specs.Verdicts.{rejectedCount, smallSteps}
+use Rattle.verdicts.specs.Verdicts.{rejectedCount}
+use Rattle.verdicts.specs.Internal.{smallSteps}
 use Rattle.host.specs.Calls.{stepBytes, tableVerdictsChecks, tableVerdictsAnswer, tableVerdictsWork, tableVerdictsBuffer}
 use Rattle.host.proofs.StepBytes.{table-steps}
 use Rattle.host.proofs.VerdictBuffer.{roomy, short, call-refused, call-done}

@@ -7,7 +7,7 @@ ghost use lib.Dec.{T};
 ghost use lib.ListN.{length};
 ghost use Rattle.refusals.specs.Buffers.{written};
 ghost use Rattle.host.specs.Calls.{stepBytes, trialVerdictsAnswer, trialVerdictsBuffer, tableVerdictsAnswer, tableVerdictsWork, tableVerdictsBuffer};
-ghost use Rattle.verdicts.specs.Verdicts.{smallSteps};
+ghost use Rattle.verdicts.specs.Internal.{smallSteps};
 
 // The rejecting steps of the first n verdicts into the first bytes of a buffer.
 fn put_steps(decisions: [Decision; 32], n: usize, out: &mut [u8])

@@ -18,7 +18,7 @@ use Rattle.order.proofs.Lists.{all-tabulate, all-replicate}
 use Rattle.columns.specs.Columns.{inSet}
 use Rattle.runs.specs.Stepdown.{next, recordOf, stepsFrom, verdictFrom, verdictOf, stepsOf, fullRun}
 use Rattle.runs.specs.FullRuns.{decision, acceptedRun, rejectingStep}
-use Rattle.verdicts.specs.Verdicts.{smallSteps}
+use Rattle.verdicts.specs.Internal.{smallSteps}
 use Rattle.runs.specs.declared.State.{State}
 use Rattle.runs.specs.declared.Step.{Step}
 use Rattle.runs.specs.declared.Verdict.the-variants.{Rejected, Kept}

@@ -6,7 +6,7 @@ use lib.Dec.{T}
 use lib.ListN.{length, take, length-set}
 use borrow.Author.Needs.{needs}
 use Rattle.refusals.proofs.Buffers.{filled}
-use Rattle.verdicts.specs.Verdicts.{smallSteps}
+use Rattle.verdicts.specs.Internal.{smallSteps}
 use Rattle.host.proofs.StepBytes.{stepOf, step-small, put-start, put-turn, put-end}
 use Rattle.host.proofs.put_steps.Statement.{statement}
 use Rattle.host.proofs.put_steps.Tie as tie
