@@ -1,5 +1,4 @@
 // The input: numbers, each a byte that tells how many bytes follow and then those, the highest first. After its end all are zero.
-use super::bits;
 use libc::STDIN_FILENO;
 ghost use Prim.Native.Nat.{_<_};
 ghost use Rattle.vectors.specs.Parts.{Within};
@@ -35,10 +34,6 @@ pub(crate) fn word_or(more: bool, n: usize) -> usize {
         return word();
     }
     n
-}
-
-pub(crate) fn value() -> f64 {
-    bits::value(word())
 }
 
 // n, or all places where there are fewer.

@@ -10,11 +10,6 @@ mod steps; // cases of runs: their beginning, their steps
 mod tables; // cases of a lent table: full runs, and places of a view
 mod trials; // trials in the input and in the output
 
-// The seed of the generated cases, as the input tells it.
-fn seed() {
-    pen::end(pen::start(b"seed", 1, input::word()));
-}
-
 // A case of a table, which the input tells first.
 fn over_table(kind: usize, cells: &mut [f64], work: &mut [f64]) {
     tables::load(cells);
@@ -26,9 +21,10 @@ fn over_table(kind: usize, cells: &mut [f64], work: &mut [f64]) {
     }
 }
 
+// The first case is the seed of the generated ones, as the input tells it.
 fn answer(kind: usize, bytes: &mut [u8], cells: &mut [f64], work: &mut [f64]) {
     match kind {
-        1 => seed(),
+        1 => pen::end(pen::start(b"seed", 1, input::word())),
         2 => files::answer(bytes),
         3 => records::answer(bytes, cells, work),
         _ => over_table(kind, cells, work),

@@ -20,17 +20,12 @@ fn begin(r: Run, cells: &[f64]) -> Beginning {
     Run::begin(r.rows, r.columns, r.k, r.a, r.b, r.observed)
 }
 
-// A beginning as a line: 0 and the run, or the refusal.
-fn print(b: Beginning) {
-    match b {
+// A run that is begun, as a line: 0 and the run, or the refusal. The values are not looked at.
+pub(crate) fn answer_begin(cells: &[f64]) {
+    match begin(tables::run(), cells) {
         Beginning::Begun(run) => pen::end(answers::run(pen::start(b"begin", 10, 0), run)),
         Beginning::Refused(number) => pen::end(pen::start(b"begin", 1, number as usize)),
     }
-}
-
-// A run that is begun; the values are not looked at.
-pub(crate) fn answer_begin(cells: &[f64]) {
-    print(begin(tables::run(), cells));
 }
 
 // A step goes by the run's sizes and not by the view's, which is one row here.

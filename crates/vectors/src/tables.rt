@@ -10,7 +10,7 @@ use view::Entry;
 // The next value: of the input, or one that stands there already, a period before.
 fn next(cells: &[f64], i: usize, given: bool, period: usize) -> f64 {
     if given {
-        return input::value();
+        return bits::value(input::word());
     }
     if period <= i {
         let earlier = i - period;
@@ -60,21 +60,16 @@ pub(crate) fn answer(cells: &[f64], work: &mut [f64]) {
     pen::end(pen::values(answers::full_run(24, f), work));
 }
 
-// The value at a place of a view: 1 and the value, or 0.
-fn print(e: Entry) {
-    match e {
-        Entry::Value(x) => pen::end(pen::put(pen::start(b"look", 2, 1), bits::of(x))),
-        Entry::Outside => pen::end(pen::start(b"look", 1, 0)),
-    }
-}
-
-// Rows, columns, row and column.
+// The value at a place of a view, by rows, columns, row and column: 1 and the value, or 0.
 pub(crate) fn answer_look(cells: &[f64]) {
-    print(view::look_at(
+    match view::look_at(
         cells,
         input::word(),
         input::word(),
         input::word(),
         input::word(),
-    ));
+    ) {
+        Entry::Value(x) => pen::end(pen::put(pen::start(b"look", 2, 1), bits::of(x))),
+        Entry::Outside => pen::end(pen::start(b"look", 1, 0)),
+    }
 }
