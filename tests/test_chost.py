@@ -161,7 +161,6 @@ class Driver(unittest.TestCase):
         self.assertGreaterEqual(results, {*range(13), 32, 103, 104, 109, 110, 111, 112})
         self.compare(calls, TABLE_STACK)
 
-
     def test_patterns(self):
         """What is no finite number is refused by 11, whatever its bits and its place."""
         for patterns, refusal in ((INFINITE, True), (SIGNALLING, True), (QUIET, True),

@@ -4,7 +4,7 @@
 --   has-over          which columns are over a value
 use Prim.Native.Nat.{ℕ, zero, suc, _+_, _-_, _≤_, _<_}
 use native.Mathlib.Omega.{arith}
-use mathlib.Core.Path.{_≡_, refl, sym, ap, _∙_}
+use mathlib.Core.Path.{_≡_, refl, sym, ap}
 use mathlib.Core.Bool.{Bool, true, false, not, _&&_, _||_}
 use mathlib.Core.List.{List, [], _∷_, map, zipWith}
 use lib.ListN.{length, getD, replicate}
@@ -100,9 +100,6 @@ pub ⊆-at : {K L : Columns} → K ⊆ L → (j : ℕ) → T (has K j) → T (ha
 pub ⊆-length : {K L : Columns} → K ⊆ L → length K ≡ length L
 ⊆-length none = refl
 ⊆-length (more f s) = ap suc (⊆-length s)
-
-pub ⊆-trans : {K L N : Columns} → K ⊆ L → L ⊆ N → K ⊆ N
-⊆-trans {K} {L} {N} s t = ⊆-by K N (⊆-length s ∙ ⊆-length t) (λ j h. ⊆-at t j (⊆-at s j h))
 
 pub size-mono : {K L : Columns} → K ⊆ L → size K ≤ size L
 unfolding size count

@@ -119,11 +119,6 @@ module _ (X : List (List Float)) (r : State) where
   unfolding next
   next-steps = omega arith
 
-  -- what no step changes
-  pub next-kept : (next X r .rows ≡ r .rows) × (next X r .columns ≡ r .columns) × (next X r .k ≡ r .k) × (next X r .e ≡ r .e) × (next X r .observed ≡ r .observed) × (next X r .live ≡ r .live)
-  unfolding next
-  next-kept = (refl, refl, refl, refl, refl, refl)
-
   pub newly-is : newlyRejected X r ≡ leftOver r ∩ over (criticalOf X r) (seenRow X r)
   unfolding newlyRejected
   newly-is = refl

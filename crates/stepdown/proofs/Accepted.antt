@@ -80,10 +80,6 @@ module _ (t : List Float) (rows columns k a b observed : ℕ) where
     unfolding tableRunRefusal
     passed = let f = both-pass (tableChecks t rows columns k a b observed) (tooShort places rows) h in (none-holds (tableChecks t rows columns k a b observed) (f .0), none-holds (tooShort places rows) (f .1))
 
-    pub table-refusal : tableRefusal t rows columns k a b observed ≡ 0
-    unfolding tableRunRefusal tableRefusal
-    table-refusal = both-pass (tableChecks t rows columns k a b observed) (tooShort places rows) h .0
-
     pub table-accepted : Accepted t rows columns k a b observed
     table-accepted = from-checks (passed .0)
 

@@ -3,24 +3,23 @@
 --   read-refusal        the number that reading answers is the file's refusal
 --   read-taken          reading an accepted file answers 0 and its trial
 --   read-write          an accepted file, read and written, is the same bytes
---   file-most           an accepted file has at most 652 bytes
 --   read-accepted       the trial of an accepted file is accepted
 --   read-lengths        and its arrays have their lengths
 --   read-many           how many words an accepted file has
-use Prim.Native.Nat.{ℕ, _+_, _%_, _≤_}
+use Prim.Native.Nat.{ℕ, _+_, _%_}
 use native.Mathlib.Omega.{arith}
 use mathlib.Core.Path.{_≡_, refl, sym, ap, _∙_}
 use mathlib.Core.List.{List}
 use lib.ListN.{length}
 use lib.Dec.{eqb}
-use borrow.Author.Tests.{ltb-false, eqb-true, not-false}
+use borrow.Author.Tests.{eqb-true, not-false}
 use Rattle.refusals.specs.Answers.{firstRefusal}
 use Rattle.refusals.proofs.Answers.{answer-map}
 use Rattle.trial.specs.Record.{ArrayLengths}
 use Rattle.trial.specs.Refusals.{trialRefusal}
 use Rattle.trial.specs.declared.Trial.{Trial}
 use Rattle.trialfile.specs.Words.{Bytes, wordsOf, bytesOf}
-use Rattle.trialfile.specs.Files.{blank, trialOf, wordsBefore, longest, fileChecks, fileRefusal, readingOf}
+use Rattle.trialfile.specs.Files.{blank, trialOf, wordsBefore, fileChecks, fileRefusal, readingOf}
 use Rattle.trialfile.specs.Writings.{fileWords, fileOf, trimmed}
 use Rattle.trialfile.specs.declared.Reading.{Reading}
 use Rattle.trialfile.proofs.Words.{words-bytes, bytes-words}
@@ -46,9 +45,6 @@ module _ (bytes : List ℕ) (h : fileRefusal bytes ≡ 0) where
   pub read-write : Bytes bytes → fileOf (trialOf (wordsOf bytes)) ≡ bytes
   unfolding fileOf
   read-write b = ap bytesOf (words-again (wordsOf bytes) (file-passed bytes h .words-good)) ∙ bytes-words bytes b (eqb-true (length bytes % 4) 0 (not-false (eqb (length bytes % 4) 0) (lengths bytes h .0)))
-
-  pub file-most : length bytes ≤ longest
-  file-most = ltb-false longest (length bytes) (lengths bytes h .1)
 
   pub read-accepted : trialRefusal (trialOf (wordsOf bytes)) ≡ 0
   read-accepted = trial-accepted (wordsOf bytes) (file-passed bytes h .words-good)

@@ -1,4 +1,5 @@
 -- `full_run` meets its contract: its checks, and the engine's full run at e over all columns.
+use native.Mathlib.Omega.{arith}
 use Rattle.stepdown.proofs.Accepted.{table-accepted, accepted-checked, table-room, table-level}
 use Rattle.stepdown.proofs.Calls.{rows-pass, full-refused, full-work-kept, full-is, full-on, full-work-cleared, made-rare, made-full}
 use mathlib.Core.Path.{sym, _∙_}
@@ -13,7 +14,7 @@ allowance-requires : tie.Need-allowance-requires
 allowance-requires c κs = let z = sym (c .before .of-table .ensures) ∙ c .if1 .left in (rows-pass _ _ _ (table-accepted _ _ _ _ _ _ _ _ z .shaped), table-level _ _ _ _ _ _ _ _ z)
 
 full-mask-requires : tie.Need-full-mask-requires
-full-mask-requires c κs = let z = sym (c .before .before .of-table .ensures) ∙ c .before .if1 .left in table-accepted _ _ _ _ _ _ _ _ z .shaped .columns-most
+full-mask-requires c κs = let z = sym (c .before .before .of-table .ensures) ∙ c .before .if1 .left in omega (arith, table-accepted _ _ _ _ _ _ _ _ z .shaped .columns-most)
 
 full-run-requires : tie.Need-full-run-requires
 full-run-requires c κs =
