@@ -61,7 +61,7 @@ extern "C" {
  *
  * Stack: about 80 KB, and less than 96 KB.
  */
-uint32_t trial_verdicts(const uint8_t *file, size_t file_len, uint8_t *verdicts, size_t verdicts_len);
+uint32_t becardlarder_trial_verdicts(const uint8_t *file, size_t file_len, uint8_t *verdicts, size_t verdicts_len);
 
 /*
  * Runs a table of rows times columns values, row after row, one of which is the observed row. An offer is a column.
@@ -80,7 +80,7 @@ uint32_t trial_verdicts(const uint8_t *file, size_t file_len, uint8_t *verdicts,
  *
  * Stack: less than 16 KB.
  */
-uint32_t table_verdicts(const double *table, size_t table_len, size_t rows, size_t columns, size_t k, size_t a, size_t b,
+uint32_t becardlarder_table_verdicts(const double *table, size_t table_len, size_t rows, size_t columns, size_t k, size_t a, size_t b,
                         size_t observed, double *work, size_t work_len, uint8_t *verdicts, size_t verdicts_len);
 
 #ifdef __cplusplus

@@ -65,7 +65,7 @@ int main(int argc, char **argv)
         return 2;
     }
 
-    uint32_t answer = trial_verdicts(file, length, verdicts, sizeof verdicts);
+    uint32_t answer = becardlarder_trial_verdicts(file, length, verdicts, sizeof verdicts);
     if (answer > BECARDLARDER_REFUSED) {
         uint32_t refusal = answer - BECARDLARDER_REFUSED;
         fprintf(stderr, "refused %u: %s\n", refusal, reason(refusal));

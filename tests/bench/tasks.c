@@ -46,7 +46,7 @@ static void run_baseline(void)
 static void run_library(void)
 {
     const struct table *t = &next(LIBRARY)->table;
-    answers[LIBRARY].number = table_verdicts(t->values, t->length, t->rows, t->columns, t->k, t->a, t->b, t->observed,
+    answers[LIBRARY].number = becardlarder_table_verdicts(t->values, t->length, t->rows, t->columns, t->k, t->a, t->b, t->observed,
                                              t->work, t->places, answers[LIBRARY].bytes, MOST_COLUMNS);
 }
 
@@ -58,7 +58,7 @@ static void verdicts_baseline(void)
 
 static void verdicts_library(void)
 {
-    answers[LIBRARY].number = trial_verdicts(next(LIBRARY)->file, LONGEST_FILE, answers[LIBRARY].bytes, MOST_OFFERS);
+    answers[LIBRARY].number = becardlarder_trial_verdicts(next(LIBRARY)->file, LONGEST_FILE, answers[LIBRARY].bytes, MOST_OFFERS);
 }
 
 static void report_baseline(void)

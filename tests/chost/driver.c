@@ -61,12 +61,12 @@ static void *lent(void *p, size_t length)
 
 static void call_file(void)
 {
-    result = trial_verdicts(lent(data, n[0]), n[0], lent(verdicts, n[1]), n[1]);
+    result = becardlarder_trial_verdicts(lent(data, n[0]), n[0], lent(verdicts, n[1]), n[1]);
 }
 
 static void call_table(void)
 {
-    result = table_verdicts(lent(data, n[0]), n[0], n[1], n[2], n[3], n[4], n[5], n[6],
+    result = becardlarder_table_verdicts(lent(data, n[0]), n[0], n[1], n[2], n[3], n[4], n[5], n[6],
                             lent(work, n[7]), n[7], lent(verdicts, n[8]), n[8]);
 }
 

@@ -27,7 +27,7 @@ fn put_steps(decisions: [Decision; 32], n: usize, out: &mut [u8])
 // Runs the trial of a file. The result is the number of rejected offers, or 100 plus the refusal number.
 // The buffer's first bytes then hold, per offer, the rejecting step or 0; where the call is refused it is unchanged.
 #[no_mangle]
-pub extern "C" fn trial_verdicts(file: &[u8], verdicts: &mut [u8]) -> u32
+pub extern "C" fn becardlarder_trial_verdicts(file: &[u8], verdicts: &mut [u8]) -> u32
     ensures { λ r. ⌜ r ≡ trialVerdictsAnswer (now (file .entry)) (length (now (verdicts .entry))) ⌝ }
     ensures { λ r. ⌜ now (verdicts .exit) ≡ trialVerdictsBuffer (now (file .entry)) (now (verdicts .entry)) ⌝ }
 {
@@ -51,7 +51,7 @@ pub extern "C" fn trial_verdicts(file: &[u8], verdicts: &mut [u8]) -> u32
 // The verdict buffer's first bytes then hold, per column, the rejecting step or 0, and the work buffer's first places plus zero, one for each row;
 // where the call is refused both are unchanged.
 #[no_mangle]
-pub extern "C" fn table_verdicts(
+pub extern "C" fn becardlarder_table_verdicts(
     table: &[f64],
     rows: usize,
     columns: usize,

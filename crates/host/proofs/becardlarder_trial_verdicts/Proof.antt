@@ -1,10 +1,10 @@
--- `trial_verdicts`: the file is run, the buffer is measured, the steps are written and the rejected counted.
+-- `becardlarder_trial_verdicts`: the file is run, the buffer is measured, the steps are written and the rejected counted.
 use native.Mathlib.Omega.{arith}
 use borrow.Author.Needs.{needs}
 use Rattle.host.proofs.VerdictBuffer.{count-fits}
 use Rattle.host.proofs.Files.{file-fits, file-known, file-refused, file-short, file-done}
-use Rattle.host.proofs.trial_verdicts.Statement.{statement}
-use Rattle.host.proofs.trial_verdicts.Tie as tie
+use Rattle.host.proofs.becardlarder_trial_verdicts.Statement.{statement}
+use Rattle.host.proofs.becardlarder_trial_verdicts.Tie as tie
 
 add-result : tie.Need-add-result
 add-result c = let r = c .before .before in record { fits = omega (arith, file-fits _ _ (r .file-run .ensures)) }
@@ -35,8 +35,8 @@ returns-3 c =
     let r = e .before .before .before .before in
     file-done _ _ (r .file-run .ensures) _ (e .before .before .if1 .left) (e .if2 .left) _ (p .put-steps .ensures) _ (c .rejected-count .ensures)
 
-pub trial-verdicts-spec : {M : Type 1} → statement M
-trial-verdicts-spec =
+pub becardlarder-trial-verdicts-spec : {M : Type 1} → statement M
+becardlarder-trial-verdicts-spec =
     tie.close
     (tie.spec
     (λ c κs. search needs)

@@ -1,10 +1,10 @@
--- `table_verdicts`: where there is no byte for each column only the refusal is looked for; otherwise the table is run, the steps are written and the rejected counted.
+-- `becardlarder_table_verdicts`: where there is no byte for each column only the refusal is looked for; otherwise the table is run, the steps are written and the rejected counted.
 use native.Mathlib.Omega.{arith}
 use Rattle.host.proofs.VerdictBuffer.{count-fits}
 use Rattle.host.proofs.Tables.{table-fits, table-known, table-short, table-refused, table-done}
 use borrow.Author.Needs.{needs}
-use Rattle.host.proofs.table_verdicts.Statement.{statement}
-use Rattle.host.proofs.table_verdicts.Tie as tie
+use Rattle.host.proofs.becardlarder_table_verdicts.Statement.{statement}
+use Rattle.host.proofs.becardlarder_table_verdicts.Tie as tie
 
 add-result : tie.Need-add-result
 add-result c = let r = c .before .before .before in record { fits = omega (arith, table-fits _ _ _ _ _ _ _ _ _ (r .full-run .ensures .0)) }
@@ -44,8 +44,8 @@ returns-3 c =
     let s = r .before .before .before .before .before .before in
     table-done _ _ _ _ _ _ _ (s .args .work .now) (s .args .verdicts .now) (r .before .before .if1 .left) _ (r .full-run2 .ensures .0) _ (r .full-run2 .ensures .1) (e .if2 .left) _ (p .put-steps .ensures) _ (c .rejected-count .ensures)
 
-pub table-verdicts-spec : {M : Type 1} → statement M
-table-verdicts-spec =
+pub becardlarder-table-verdicts-spec : {M : Type 1} → statement M
+becardlarder-table-verdicts-spec =
     tie.close
     (tie.spec
     (λ c. search needs)
