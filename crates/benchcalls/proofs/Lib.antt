@@ -1,2 +1,3 @@
-pub mod Parts
-pub mod Criticals
+pub mod Handed
+pub mod Taking
+pub mod Calls

@@ -1,17 +1,19 @@
 // The calls that only the benchmark makes (docs/BENCHMARKS.md): they hand out whole answers, so that an answer can be compared and no part of it is left uncomputed.
-// The definitions are in specs/, their laws in proofs/.
+// Each answers 0 or the refusal number; a refused call changes no lent place. The definitions are in specs/, their laws in proofs/.
+use runs::Decision;
 use runs::Record;
 use trial::Trial;
 ghost use mathlib.Core.Path.{_≡_};
 ghost use mathlib.Core.List.{map};
 ghost use lib.ListN.{length};
-ghost use Rattle.stepdown.specs.Answers.{fullAnswer, fullWork};
-ghost use Rattle.trialfile.specs.Files.{readingOf};
-ghost use Rattle.trialfile.specs.Writings.{writingOf, afterWriting};
-ghost use Rattle.rendering.specs.Renderings.{renderingOf, afterRendering};
-ghost use Rattle.benchcalls.specs.Parts.{criticalOfRecord, figuresOf, trialFrom};
+ghost use Rattle.stepdown.specs.Refusals.{tableRunRefusal};
+ghost use Rattle.stepdown.specs.Answers.{fullWork};
+ghost use Rattle.trialfile.specs.Files.{fileRefusal};
+ghost use Rattle.trialfile.specs.Writings.{writeRefusal, afterWriting};
+ghost use Rattle.rendering.specs.Renderings.{renderRefusal, afterRendering};
+ghost use Rattle.benchcalls.specs.Calls.{figuresOf, codesOf, digitsOf, differencesOf, trialFrom, criticalOfRecord, stepOfDecision, stepsIn, criticalsIn, countsIn, verdictsOf, fromFile, lengthWritten, lengthRendered, fromTable};
 
-// Reads a file. The result is 0 or the refusal number; the arrays hold the trial that reading answers, the first one a, b, k, offers and pairs.
+// Reads a file. The arrays then hold its trial, the first one a, b, k, offers and pairs.
 #[no_mangle]
 pub extern "C" fn bench_read(
     file: &[u8],
@@ -20,25 +22,27 @@ pub extern "C" fn bench_read(
     digits: &mut [u8; 16],
     differences: &mut [i32; 144],
 ) -> u32
-    ensures { λ r. ⌜ r ≡ readingOf (now (file .entry)) .refusal ⌝ }
-    ensures { λ r. ⌜ now (figures .exit) ≡ figuresOf (readingOf (now (file .entry)) .trial) ⌝ }
-    ensures { λ r. ⌜ now (codes .exit) ≡ readingOf (now (file .entry)) .trial .codes ⌝ }
-    ensures { λ r. ⌜ now (digits .exit) ≡ readingOf (now (file .entry)) .trial .digits ⌝ }
-    ensures { λ r. ⌜ now (differences .exit) ≡ readingOf (now (file .entry)) .trial .differences ⌝ }
+    ensures { λ r. ⌜ r ≡ fileRefusal (now (file .entry)) ⌝ }
+    ensures { λ r. ⌜ now (figures .exit) ≡ fromFile figuresOf (now (file .entry)) (now (figures .entry)) ⌝ }
+    ensures { λ r. ⌜ now (codes .exit) ≡ fromFile codesOf (now (file .entry)) (now (codes .entry)) ⌝ }
+    ensures { λ r. ⌜ now (digits .exit) ≡ fromFile digitsOf (now (file .entry)) (now (digits .entry)) ⌝ }
+    ensures { λ r. ⌜ now (differences .exit) ≡ fromFile differencesOf (now (file .entry)) (now (differences .entry)) ⌝ }
 {
     let reading = trialfile::read(file);
-    let t = reading.trial;
-    *figures = [t.a, t.b, t.k, t.offers, t.pairs];
-    let c = t.codes;
-    *codes = c;
-    let g = t.digits;
-    *digits = g;
-    let d = t.differences;
-    *differences = d;
+    if reading.refusal == 0 {
+        let t = reading.trial;
+        *figures = [t.a, t.b, t.k, t.offers, t.pairs];
+        let c = t.codes;
+        *codes = c;
+        let g = t.digits;
+        *digits = g;
+        let d = t.differences;
+        *differences = d;
+    }
     reading.refusal
 }
 
-// Writes the trial of these figures and arrays. The result is the length of the file, or 0 where writing is refused.
+// Writes the trial of these figures and arrays into the buffer's first bytes, and the length of the file into its place.
 #[no_mangle]
 pub extern "C" fn bench_write(
     figures: &[usize; 5],
@@ -46,9 +50,11 @@ pub extern "C" fn bench_write(
     digits: &[u8; 16],
     differences: &[i32; 144],
     out: &mut [u8],
-) -> usize
-    ensures { λ r. ⌜ r ≡ writingOf (trialFrom (now (figures .entry)) (now (codes .entry)) (now (digits .entry)) (now (differences .entry))) (length (now (out .entry))) .length ⌝ }
+    written: &mut usize,
+) -> u32
+    ensures { λ r. ⌜ r ≡ writeRefusal (trialFrom (now (figures .entry)) (now (codes .entry)) (now (digits .entry)) (now (differences .entry))) (length (now (out .entry))) ⌝ }
     ensures { λ r. ⌜ now (out .exit) ≡ afterWriting (trialFrom (now (figures .entry)) (now (codes .entry)) (now (digits .entry)) (now (differences .entry))) (now (out .entry)) ⌝ }
+    ensures { λ r. ⌜ now (written .exit) ≡ lengthWritten (trialFrom (now (figures .entry)) (now (codes .entry)) (now (digits .entry)) (now (differences .entry))) (length (now (out .entry))) (now (written .entry)) ⌝ }
 {
     let t = Trial {
         a: figures[0],
@@ -61,17 +67,24 @@ pub extern "C" fn bench_write(
         differences: *differences,
     };
     let writing = trialfile::write(t, out);
-    writing.length
+    if writing.refusal == 0 {
+        *written = writing.length;
+    }
+    writing.refusal
 }
 
-// The report of a file. The result is the length of the text, or 0 where the buffer is too short for it.
+// Puts the report of a file into the buffer's first bytes, and the length of the text into its place.
 #[no_mangle]
-pub extern "C" fn bench_report(file: &[u8], text: &mut [u8]) -> usize
-    ensures { λ r. ⌜ r ≡ renderingOf (now (file .entry)) (length (now (text .entry))) .length ⌝ }
+pub extern "C" fn bench_report(file: &[u8], text: &mut [u8], written: &mut usize) -> u32
+    ensures { λ r. ⌜ r ≡ renderRefusal (now (file .entry)) (length (now (text .entry))) ⌝ }
     ensures { λ r. ⌜ now (text .exit) ≡ afterRendering (now (file .entry)) (now (text .entry)) ⌝ }
+    ensures { λ r. ⌜ now (written .exit) ≡ lengthRendered (now (file .entry)) (length (now (text .entry))) (now (written .entry)) ⌝ }
 {
     let rendering = rendering::report(file, text);
-    rendering.length
+    if rendering.refusal == 0 {
+        *written = rendering.length;
+    }
+    rendering.refusal
 }
 
 // The critical values of records.
@@ -88,7 +101,23 @@ fn criticals_of(records: [Record; 32]) -> [f64; 32]
     criticals
 }
 
-// The full run of a table. The result is 0 or the refusal number; then come its steps, its critical values and its counts, blank where it is refused.
+// The rejecting steps of verdicts, 0 where one is kept.
+fn steps_of(decisions: [Decision; 32]) -> [usize; 32]
+    ensures { λ r. ⌜ r ≡ map stepOfDecision decisions ⌝ }
+{
+    let mut steps = [0usize; 32];
+    let mut j: usize = 0;
+    while j < 32 {
+        let d = decisions[j];
+        let v = d.verdict;
+        let s = verdicts::rejecting_step(v);
+        steps[j] = s;
+        j += 1;
+    }
+    steps
+}
+
+// The full run of a table: how many steps, the critical value of each, and for each column the count and the verdict, which is the rejecting step or 0.
 #[no_mangle]
 pub extern "C" fn bench_table(
     table: &[f64],
@@ -102,19 +131,26 @@ pub extern "C" fn bench_table(
     steps: &mut usize,
     criticals: &mut [f64; 32],
     counts: &mut [usize; 32],
+    verdicts: &mut [usize; 32],
 ) -> u32
-    ensures { λ r. ⌜ r ≡ fullAnswer (now (table .entry)) rows columns k a b observed (length (now (work .entry))) .refusal ⌝ }
+    ensures { λ r. ⌜ r ≡ tableRunRefusal (now (table .entry)) rows columns k a b observed (length (now (work .entry))) ⌝ }
     ensures { λ r. ⌜ now (work .exit) ≡ fullWork (now (table .entry)) rows columns k a b observed (now (work .entry)) ⌝ }
-    ensures { λ r. ⌜ now (steps .exit) ≡ fullAnswer (now (table .entry)) rows columns k a b observed (length (now (work .entry))) .steps ⌝ }
-    ensures { λ r. ⌜ now (criticals .exit) ≡ map criticalOfRecord (fullAnswer (now (table .entry)) rows columns k a b observed (length (now (work .entry))) .records) ⌝ }
-    ensures { λ r. ⌜ now (counts .exit) ≡ fullAnswer (now (table .entry)) rows columns k a b observed (length (now (work .entry))) .counts ⌝ }
+    ensures { λ r. ⌜ now (steps .exit) ≡ fromTable stepsIn (now (table .entry)) rows columns k a b observed (length (now (work .entry))) (now (steps .entry)) ⌝ }
+    ensures { λ r. ⌜ now (criticals .exit) ≡ fromTable criticalsIn (now (table .entry)) rows columns k a b observed (length (now (work .entry))) (now (criticals .entry)) ⌝ }
+    ensures { λ r. ⌜ now (counts .exit) ≡ fromTable countsIn (now (table .entry)) rows columns k a b observed (length (now (work .entry))) (now (counts .entry)) ⌝ }
+    ensures { λ r. ⌜ now (verdicts .exit) ≡ fromTable verdictsOf (now (table .entry)) rows columns k a b observed (length (now (work .entry))) (now (verdicts .entry)) ⌝ }
 {
     let run = stepdown::full_run(table, work, rows, columns, k, a, b, observed);
-    *steps = run.steps;
-    let records = run.records;
-    let c = criticals_of(records);
-    *criticals = c;
-    let n = run.counts;
-    *counts = n;
+    if run.refusal == 0 {
+        *steps = run.steps;
+        let records = run.records;
+        let c = criticals_of(records);
+        *criticals = c;
+        let n = run.counts;
+        *counts = n;
+        let decisions = run.decisions;
+        let s = steps_of(decisions);
+        *verdicts = s;
+    }
     run.refusal
 }

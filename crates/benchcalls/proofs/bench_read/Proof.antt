@@ -1,11 +1,22 @@
--- `bench_read`: the parts of what reading answers.
+-- `bench_read`: the number of what reading answers, and the parts of its trial where it is 0.
 use borrow.Author.Needs.{needs}
-use Rattle.benchcalls.proofs.Parts.{read-parts}
+use Rattle.benchcalls.specs.Calls.{figuresOf, codesOf, digitsOf, differencesOf}
+use Rattle.benchcalls.proofs.Calls.{read-number, read-kept, read-given}
 use Rattle.benchcalls.proofs.bench_read.Statement.{statement}
 use Rattle.benchcalls.proofs.bench_read.Tie as tie
 
 returns : tie.Need-returns
-returns c = read-parts (c .before .before .before .before .before .read .ensures)
+returns c =
+    let i = c .before .before .before .before .before in
+    let e = i .before .before .read .ensures in
+    let z = i .if1 .taken in
+    (read-number _ _ e, (read-given _ _ e figuresOf _ z, (read-given _ _ e codesOf _ z, (read-given _ _ e digitsOf _ z, read-given _ _ e differencesOf _ z))))
+
+returns-2 : tie.Need-returns-2
+returns-2 c =
+    let e = c .before .before .read .ensures in
+    let f = c .if1 .left in
+    (read-number _ _ e, (read-kept _ _ e figuresOf _ f, (read-kept _ _ e codesOf _ f, (read-kept _ _ e digitsOf _ f, read-kept _ _ e differencesOf _ f))))
 
 pub bench-read-spec : {M : Type 1} → statement M
-bench-read-spec = tie.close (tie.spec (λ c κs. search needs) returns)
+bench-read-spec = tie.close (tie.spec (λ c κs. search needs) returns returns-2)

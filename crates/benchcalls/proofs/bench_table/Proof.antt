@@ -1,18 +1,27 @@
--- `bench_table`: the parts of what a full run answers.
-use lib.ListN.{length}
+-- `bench_table`: the number of what a full run answers, and its parts where it is 0.
+use mathlib.Core.Path.{_∙_}
 use borrow.Author.Needs.{needs}
-use Rattle.stepdown.specs.Answers.{fullAnswer, fullWork}
-use Rattle.benchcalls.proofs.Parts.{run-parts}
+use Rattle.benchcalls.specs.Calls.{stepsIn, criticalsIn, countsIn, verdictsOf}
+use Rattle.benchcalls.proofs.Calls.{run-number, run-kept, run-given}
 use Rattle.benchcalls.proofs.bench_table.Statement.{statement}
 use Rattle.benchcalls.proofs.bench_table.Tie as tie
 
 returns : tie.Need-returns
 returns c =
-    let r = c .before .before .before .before .before in
-    let s = r .before .before .before .before .args in
-    run-parts {y = fullAnswer (s .table .now) (s .rows) (s .columns) (s .k) (s .a) (s .b) (s .observed) (length (s .work .now))} (r .full-run .ensures .0)
-    {w = fullWork (s .table .now) (s .rows) (s .columns) (s .k) (s .a) (s .b) (s .observed) (s .work .now)} (r .full-run .ensures .1)
-    (c .before .criticals-of .ensures)
+    let i = c .before .before .before .before .before in
+    let p = i .before .before .before .before .full-run .ensures in
+    let z = i .if1 .taken in (
+      run-number _ _ _ _ _ _ _ _ _ (p .0),
+      (p .1, (run-given _ _ _ _ _ _ _ _ _ (p .0) stepsIn _ z, (c .before .before .before .criticals-of .ensures ∙ run-given _ _ _ _ _ _ _ _ _ (p .0) criticalsIn _ z, (run-given _ _ _ _ _ _ _ _ _ (p .0) countsIn _ z, c .steps-of .ensures ∙ run-given _ _ _ _ _ _ _ _ _ (p .0) verdictsOf _ z)))),
+    )
+
+returns-2 : tie.Need-returns-2
+returns-2 c =
+    let p = c .before .before .before .before .full-run .ensures in
+    let f = c .if1 .left in (
+      run-number _ _ _ _ _ _ _ _ _ (p .0),
+      (p .1, (run-kept _ _ _ _ _ _ _ _ _ (p .0) stepsIn _ f, (run-kept _ _ _ _ _ _ _ _ _ (p .0) criticalsIn _ f, (run-kept _ _ _ _ _ _ _ _ _ (p .0) countsIn _ f, run-kept _ _ _ _ _ _ _ _ _ (p .0) verdictsOf _ f)))),
+    )
 
 pub bench-table-spec : {M : Type 1} → statement M
-bench-table-spec = tie.close (tie.spec (λ c κs. search needs) (λ c κs. search needs) (λ c. search needs) returns)
+bench-table-spec = tie.close (tie.spec (λ c κs. search needs) (λ c κs. search needs) (λ c κs. search needs) (λ c. search needs) returns (λ c. search needs) returns-2)

@@ -1,0 +1,93 @@
+-- The calls that only the benchmark makes: what is left in each lent place. Definitions only.
+-- A call answers 0 or the refusal number, and a refused one changes no lent place: each is `afterwards checks new old`.
+--   figuresOf t              a, b, k, offers and pairs of a trial
+--   codesOf t, digitsOf t, differencesOf t     its arrays
+--   trialFrom fs codes digits differences      the trial of these figures and arrays
+--   criticalOfRecord m, stepOfDecision d       the critical value of a record; the rejecting step of a verdict, 0 where it is kept
+--   stepsIn f, criticalsIn f, countsIn f, verdictsOf f     parts of a full run: how many steps, critical values, counts, rejecting steps
+--   fromFile part bytes old              a place after `bench_read`: a part of the file's trial
+--   lengthWritten t places old           the length's place after `bench_write` into so many bytes
+--   lengthRendered bytes places old      the length's place after `bench_report` into so many bytes
+--   fromTable part t .. places old       a place after `bench_table` with so many work places: a part of the table's full run
+use Prim.Native.Nat.{ℕ}
+use mathlib.Core.List.{List, [], _∷_, map}
+use lib.ListN.{length, getD}
+use lib.IntN.{ℤ}
+use lib.Ieee.{Float}
+use Rattle.refusals.specs.Answers.{answer, afterwards}
+use Rattle.runs.specs.FullRuns.{acceptedRun, rejectingStep}
+use Rattle.runs.specs.Tables.{tableRun}
+use Rattle.runs.specs.declared.Record.{Record}
+use Rattle.runs.specs.declared.Decision.{Decision}
+use Rattle.runs.specs.declared.FullRun.{FullRun}
+use Rattle.stepdown.specs.Refusals.{tableChecks, tableRunChecks}
+use Rattle.trial.specs.declared.Trial.{Trial}
+use Rattle.trialfile.specs.Words.{wordsOf}
+use Rattle.trialfile.specs.Files.{trialOf, fileChecks}
+use Rattle.trialfile.specs.Writings.{writeChecks, fileLength}
+use Rattle.rendering.specs.Reports.{reportOf}
+use Rattle.rendering.specs.Renderings.{renderChecks}
+
+-- ---- a trial in parts
+
+abbrev pub figuresOf : Trial → List ℕ
+figuresOf t = t .a ∷ t .b ∷ t .k ∷ t .offers ∷ t .pairs ∷ []
+
+abbrev pub codesOf : Trial → List ℕ
+codesOf t = t .codes
+
+abbrev pub digitsOf : Trial → List ℕ
+digitsOf t = t .digits
+
+abbrev pub differencesOf : Trial → List ℤ
+differencesOf t = t .differences
+
+abbrev pub trialFrom : List ℕ → List ℕ → List ℕ → List ℤ → Trial
+trialFrom fs codes digits differences = record {
+  a = getD fs 0 0;
+  b = getD fs 1 0;
+  k = getD fs 2 0;
+  offers = getD fs 3 0;
+  pairs = getD fs 4 0;
+  codes = codes;
+  digits = digits;
+  differences = differences;
+}
+
+-- ---- a full run in parts
+
+abbrev pub criticalOfRecord : Record → Float
+criticalOfRecord m = m .critical
+
+abbrev pub stepOfDecision : Decision → ℕ
+stepOfDecision d = rejectingStep (d .verdict)
+
+abbrev pub stepsIn : FullRun → ℕ
+stepsIn f = f .steps
+
+abbrev pub criticalsIn : FullRun → List Float
+criticalsIn f = map criticalOfRecord (f .records)
+
+abbrev pub countsIn : FullRun → List ℕ
+countsIn f = f .counts
+
+abbrev pub verdictsOf : FullRun → List ℕ
+verdictsOf f = map stepOfDecision (f .decisions)
+
+-- ---- the lent places
+
+unfoldable pub fromFile : {A : Type 0} → (Trial → A) → List ℕ → A → A
+unfolding answer fileChecks trialOf
+fromFile part bytes old = afterwards (fileChecks bytes) (part (trialOf (wordsOf bytes))) old
+
+unfoldable pub lengthWritten : Trial → ℕ → ℕ → ℕ
+unfolding answer writeChecks
+lengthWritten t places old = afterwards (writeChecks t places) (fileLength t) old
+
+unfoldable pub lengthRendered : List ℕ → ℕ → ℕ → ℕ
+unfolding answer reportOf
+lengthRendered bytes places old = afterwards (renderChecks bytes places) (length (reportOf bytes)) old
+
+unfoldable pub fromTable : {A : Type 0} → (FullRun → A) → List Float → ℕ → ℕ → ℕ → ℕ → ℕ → ℕ → ℕ → A → A
+unfolding answer tableChecks acceptedRun tableRun
+fromTable part t rows columns k a b observed places old = afterwards (tableRunChecks t rows columns k a b observed places) (part (acceptedRun (tableRun t rows columns k a b observed))) old
