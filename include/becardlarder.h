@@ -80,8 +80,9 @@ uint32_t becardlarder_trial_verdicts(const uint8_t *file, size_t file_len, uint8
  *
  * Stack: less than 16 KB.
  */
-uint32_t becardlarder_table_verdicts(const double *table, size_t table_len, size_t rows, size_t columns, size_t k, size_t a, size_t b,
-                        size_t observed, double *work, size_t work_len, uint8_t *verdicts, size_t verdicts_len);
+uint32_t becardlarder_table_verdicts(const double *table, size_t table_len, size_t rows, size_t columns, size_t k,
+                                     size_t a, size_t b, size_t observed, double *work, size_t work_len,
+                                     uint8_t *verdicts, size_t verdicts_len);
 
 #ifdef __cplusplus
 }

@@ -23,7 +23,7 @@ def _(case: FileCase) -> dict:
     return {"read": answer,
             "full_run": answer if isinstance(answer, Refused) else trial.full_run(answer),
             "report": (report.lent_report(case.data, text), bytes(text)),
-            "c_call": (ccall.trial_verdicts(case.data, buffer), bytes(buffer))}
+            "c_call": (ccall.on_file(case.data, buffer), bytes(buffer))}
 
 
 @expected.register

@@ -1,5 +1,8 @@
 """The baseline in C that the benchmark compares with: every answer and lent place, against the reference.
 
+It tells no refusal numbers: what the reference refuses, whatever the number, it has to refuse, and
+leave what was lent to it alone.
+
 gcc builds it as the benchmark does, with all warnings as errors; where gcc is missing the
 tests fail.
 """
@@ -72,21 +75,14 @@ class CTrial(Structure):
                      tuple(self.digits), tuple(self.differences))
 
 
-def figures(refusal: int, run: CFullRun):
-    """What a full run of the baseline answers: the refusal, or all that a full run gives.
-
-    Values go by their bits, so that minus zero is not taken for zero.
-    """
-    if refusal != 0:
-        return Refused(refusal)
+def figures(run: CFullRun):
+    """All that a full run of the baseline gives. Values go by their bits: minus zero is not zero."""
     return ([run.critical[i].hex() for i in range(run.steps)], bytes(run.step), tuple(run.count),
             run.rejected)
 
 
 def expected_figures(answer):
     """The same of the reference."""
-    if isinstance(answer, Refused):
-        return answer
     counts = answer.counts + (0,) * (32 - len(answer.counts))
     return ([record.critical_value.hex() for record in answer.records],
             ccall.steps(answer).ljust(32, b"\0"), counts, answer.rejected())
@@ -97,102 +93,113 @@ def marked(kind, room: int):
     return (kind * (room + GUARD))(*[MARK] * (room + GUARD))
 
 
+def lent_table(case, work) -> CTable:
+    """A table case as the baseline takes it."""
+    values = (c_double * max(len(case.values), 1))(*case.values)
+    return CTable(values, len(case.values), case.rows, case.columns, case.k, case.a, case.b,
+                  case.observed, work, case.work_room)
+
+
 class Tables(unittest.TestCase):
-    def full_run(self, case):
-        """The baseline's answer to a table case, and its work buffer."""
-        values = (c_double * max(len(case.values), 1))(*case.values)
-        work = marked(c_double, case.work_room)
-        lent = CTable(values, len(case.values), case.rows, case.columns, case.k, case.a, case.b,
-                      case.observed, work, case.work_room)
-        run = CFullRun()
-        return figures(baseline.run_table(byref(lent), byref(run)), run), list(work)
-
-    def verdicts(self, case, room: int):
-        """The baseline's answer as a call for C, and its buffers."""
-        values = (c_double * max(len(case.values), 1))(*case.values)
-        work, buffer = marked(c_double, case.work_room), marked(c_uint8, room)
-        sizes = (c_size_t(n) for n in (len(case.values), case.rows, case.columns, case.k, case.a,
-                                       case.b, case.observed))
-        answer = baseline.baseline_table_verdicts(values, *sizes, work, c_size_t(case.work_room),
-                                                  buffer, c_size_t(room))
-        return answer, list(work), bytes(buffer)
-
     def test_full_runs(self):
-        seen = set()
+        refused = set()
         for case in every_case_of("table"):
-            work = [float(MARK)] * case.work_room
+            expected_work, work = [float(MARK)] * case.work_room, marked(c_double, case.work_room)
             answer = table.full_run(case.values, case.rows, case.columns, case.k, case.a, case.b,
-                                    case.observed, work)
-            seen.add(answer.number if isinstance(answer, Refused) else 0)
-            self.assertEqual(self.full_run(case),
-                             (expected_figures(answer), work + [float(MARK)] * GUARD), case.name)
-        self.assertEqual(seen, {0, 3, 4, 9, 10, 11, 12})
+                                    case.observed, expected_work)
+            run = CFullRun()
+            accepted = baseline.run_table(byref(lent_table(case, work)), byref(run))
+            if isinstance(answer, Refused):
+                refused.add(answer.number)
+                self.assertEqual((accepted, bytes(run)), (0, bytes(CFullRun())), case.name)
+            else:
+                self.assertEqual((accepted, figures(run)), (1, expected_figures(answer)), case.name)
+            self.assertEqual(list(work), expected_work + [float(MARK)] * GUARD, case.name)
+        self.assertEqual(refused, {3, 4, 9, 10, 11, 12})
 
     def test_verdicts(self):
         for case in every_case_of("table"):
             if len(case.values) > 4096:
                 continue
             for room in {0, min(case.columns, 40)}:
-                work, buffer = [float(MARK)] * case.work_room, bytearray([MARK]) * room
-                answer = ccall.table_verdicts(case.values, case.rows, case.columns, case.k, case.a,
-                                              case.b, case.observed, work, buffer)
-                self.assertEqual(self.verdicts(case, room),
-                                 (answer, work + [float(MARK)] * GUARD,
-                                  bytes(buffer) + bytes([MARK]) * GUARD), case.name)
+                expected_work, buffer = [float(MARK)] * case.work_room, bytearray([MARK]) * room
+                answer = ccall.on_table(case.values, case.rows, case.columns, case.k, case.a,
+                                        case.b, case.observed, expected_work, buffer)
+                work, lent, rejected = (marked(c_double, case.work_room), marked(c_uint8, room),
+                                        c_size_t(MARK))
+                accepted = baseline.verdicts_of_table(byref(lent_table(case, work)), lent,
+                                                      c_size_t(room), byref(rejected))
+                self.assertEqual((accepted, rejected.value),
+                                 (0, MARK) if answer > 100 else (1, answer), case.name)
+                self.assertEqual(list(work), expected_work + [float(MARK)] * GUARD, case.name)
+                self.assertEqual(bytes(lent), bytes(buffer) + bytes([MARK]) * GUARD, case.name)
 
 
 class Files(unittest.TestCase):
-    def report(self, data: bytes, room: int):
-        """The baseline's answer, the length that it gives, and the text's buffer."""
-        text, written = marked(c_uint8, room), c_size_t()
-        answer = baseline.report(data, c_size_t(len(data)), text, c_size_t(room), byref(written))
-        return answer, written.value, bytes(text)
-
     def test_reading(self):
-        seen = set()
-        blank = CTrial().trial()
+        refused = set()
         for case in every_case_of("file"):
-            trial = CTrial()
-            refusal = baseline.read_trial(case.data, c_size_t(len(case.data)), byref(trial))
+            trial, blank = CTrial(), CTrial().trial()
+            accepted = baseline.read_trial(case.data, c_size_t(len(case.data)), byref(trial))
             answer = trialfile.read(case.data)
-            expected = (answer.number, blank) if isinstance(answer, Refused) else (0, answer)
-            self.assertEqual((refusal, trial.trial()), expected, case.name)
-            seen.add(refusal)
-        self.assertEqual(seen, set(range(9)))
+            if isinstance(answer, Refused):
+                refused.add(answer.number)
+            expected = (0, blank) if isinstance(answer, Refused) else (1, answer)
+            self.assertEqual((accepted, trial.trial()), expected, case.name)
+        self.assertEqual(refused, set(range(1, 9)))
 
-    def test_reports_and_verdicts(self):
-        guard = bytes([MARK]) * GUARD
+    def check_report(self, case, room: int, text):
+        """The baseline's report into so many places is the text, or refused."""
+        lent, written = marked(c_uint8, room), c_size_t(MARK)
+        accepted = baseline.report(case.data, c_size_t(len(case.data)), lent, c_size_t(room),
+                                   byref(written))
+        expected = (0, MARK, b"") if text is None else (1, len(text), text)
+        self.assertEqual((accepted, written.value, bytes(lent)),
+                         (*expected[:2], expected[2].ljust(room + GUARD, bytes([MARK]))), case.name)
+
+    def test_reports(self):
         for case in every_case_of("file"):
             text = report.report(case.data).encode()
-            n = len(text)
-            self.assertEqual(self.report(case.data, n), (0, n, text + guard), case.name)
-            self.assertEqual(self.report(case.data, n - 1),
-                             (12, 0, bytes([MARK]) * (n - 1) + guard), case.name)
+            if text.startswith(b"refused"):
+                self.check_report(case, len(text), None)
+            else:
+                self.check_report(case, len(text), text)
+                self.check_report(case, len(text) - 1, None)
+
+    def test_verdicts(self):
+        for case in every_case_of("file"):
             buffer, lent = bytearray([MARK]) * case.buffer_room, marked(c_uint8, case.buffer_room)
-            answer = ccall.trial_verdicts(case.data, buffer)
-            found = baseline.baseline_trial_verdicts(case.data, c_size_t(len(case.data)), lent,
-                                                     c_size_t(case.buffer_room))
-            self.assertEqual((found, bytes(lent)), (answer, bytes(buffer) + guard), case.name)
+            answer, rejected = ccall.on_file(case.data, buffer), c_size_t(MARK)
+            accepted = baseline.verdicts_of_file(case.data, c_size_t(len(case.data)), lent,
+                                                 c_size_t(case.buffer_room), byref(rejected))
+            self.assertEqual((accepted, rejected.value), (0, MARK) if answer > 100 else (1, answer),
+                             case.name)
+            self.assertEqual(bytes(lent), bytes(buffer) + bytes([MARK]) * GUARD, case.name)
 
 
 class Records(unittest.TestCase):
     def test_writing(self):
+        refused = set()
         for case in cases_of("record"):
             buffer, lent = bytearray([MARK]) * case.file_room, marked(c_uint8, case.file_room)
-            length = c_size_t()
-            refusal = baseline.write_trial(byref(CTrial.of(case.trial)), lent,
-                                           c_size_t(case.file_room), byref(length))
+            length = c_size_t(MARK)
+            accepted = baseline.write_trial(byref(CTrial.of(case.trial)), lent,
+                                            c_size_t(case.file_room), byref(length))
             answer = trialfile.write(case.trial, buffer)
-            expected = (answer.number, 0) if isinstance(answer, Refused) else (0, len(answer))
-            self.assertEqual((refusal, length.value), expected, case.name)
+            if isinstance(answer, Refused):
+                refused.add(answer.number)
+            expected = (0, MARK) if isinstance(answer, Refused) else (1, len(answer))
+            self.assertEqual((accepted, length.value), expected, case.name)
             self.assertEqual(bytes(lent), bytes(buffer) + bytes([MARK]) * GUARD, case.name)
+        self.assertEqual(refused, {3, 4, 5, 6, 7, 12})
 
     def test_full_runs(self):
         for case in cases_of("record"):
-            run = CFullRun()
-            refusal = baseline.run_trial(byref(CTrial.of(case.trial)), byref(run))
-            self.assertEqual(figures(refusal, run), expected_figures(full_run(case.trial)),
-                             case.name)
+            answer, run = full_run(case.trial), CFullRun()
+            if isinstance(answer, Refused):
+                continue
+            baseline.run_trial(byref(CTrial.of(case.trial)), byref(run))
+            self.assertEqual(figures(run), expected_figures(answer), case.name)
 
 
 if __name__ == "__main__":

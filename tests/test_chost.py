@@ -76,7 +76,7 @@ def answers(driver: Path, calls):
 def file_call(case, room: int) -> Call:
     """A file case with a buffer of so many bytes."""
     buffer = bytearray([MARK]) * room
-    result = ccall.trial_verdicts(case.data, buffer)
+    result = ccall.on_file(case.data, buffer)
     return Call(f"{case.name}, buffer of {room}",
                 b"F" + struct.pack("<2Q", len(case.data), room) + case.data,
                 struct.pack("<I", result) + buffer + bytes([MARK]) * GUARD)
@@ -95,7 +95,7 @@ def table_call(case, room: int, values=None) -> Call:
     """A table case with a verdict buffer of so many bytes; `values` are its values as bytes."""
     figures = (case.rows, case.columns, case.k, case.a, case.b, case.observed)
     work, buffer = [float(MARK)] * case.work_room, bytearray([MARK]) * room
-    result = ccall.table_verdicts(case.values, *figures, work, buffer)
+    result = ccall.on_table(case.values, *figures, work, buffer)
     places = struct.pack(f"<{len(work) + GUARD}d", *work, *[float(MARK)] * GUARD)
     return Call(f"{case.name}, buffer of {room}",
                 b"T" + struct.pack("<9Q", len(case.values), *figures, case.work_room, room)
@@ -149,13 +149,13 @@ class Driver(unittest.TestCase):
             self.assertEqual(answer, call.answer, call.name)
         self.assertLess(used, stack)
 
-    def test_trial_verdicts(self):
+    def test_files(self):
         calls = list(file_calls())
         results = {struct.unpack("<I", call.answer[:4])[0] for call in calls}
         self.assertGreaterEqual(results, set(range(17)) | set(range(101, 109)) | {112})
         self.compare(calls, FILE_STACK)
 
-    def test_table_verdicts(self):
+    def test_tables(self):
         calls = list(table_calls())
         results = {struct.unpack("<I", call.answer[:4])[0] for call in calls}
         self.assertGreaterEqual(results, {*range(13), 32, 103, 104, 109, 110, 111, 112})
@@ -178,7 +178,7 @@ def sample_lines(data: bytes) -> str:
     codes = [str(code).zfill(digits) for code, digits in zip(trial.codes, trial.digits)]
     lines = [f"{code} rejected in step {verdict.step}" if isinstance(verdict, Rejected)
              else f"{code} kept" for code, verdict in zip(codes, verdicts)]
-    return "".join(f"{line}\n" for line in (*lines, f"rejected: {ccall.trial_verdicts(data, None)}"))
+    return "".join(f"{line}\n" for line in (*lines, f"rejected: {ccall.on_file(data, None)}"))
 
 
 class SampleHost(unittest.TestCase):

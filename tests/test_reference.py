@@ -242,11 +242,11 @@ class Refusals(unittest.TestCase):
 
     def test_c_call(self):
         buffer = bytearray(b"\7" * 3)
-        self.assertEqual(ccall.trial_verdicts(W_FILE, buffer), 1)
+        self.assertEqual(ccall.on_file(W_FILE, buffer), 1)
         self.assertEqual(buffer, b"\1\0\7")
         short = bytearray(b"\7")
-        self.assertEqual(ccall.trial_verdicts(W_FILE, short), 112)
-        self.assertEqual(ccall.trial_verdicts(W_FILE + bytes(4), short), 108)
+        self.assertEqual(ccall.on_file(W_FILE, short), 112)
+        self.assertEqual(ccall.on_file(W_FILE + bytes(4), short), 108)
         self.assertEqual(short, b"\7")
 
 
@@ -383,7 +383,7 @@ class Properties(unittest.TestCase):
         for _ in range(150):
             one = random_trial(rng, 6, 8, 5)
             data, buffer = trialfile.write(one), bytearray(b"\xff" * 20)
-            answer = ccall.trial_verdicts(data, buffer)
+            answer = ccall.on_file(data, buffer)
             text = report.report(data)
             self.assertTrue(text.endswith(f"\nend {answer}\n"))
             self.assertEqual(answer, sum(1 for step in buffer[:one.offers] if step))

@@ -1,13 +1,14 @@
 /*
  * The method of document 01 in plain C: the baseline that docs/BENCHMARKS.md measures the library against.
  *
- * It makes the answers of the library, refusals too, with the same lent buffers and without allocation:
+ * It has what the benchmark measures and no more, with the same lent buffers and without allocation:
  *   stepdown.c   full runs of tables
  *   trial.c      trial records: checks, table, full run
  *   file.c       trial files: reader and writer
- *   report.c     the report's text, and the calls of include/becardlarder.h
+ *   report.c     the report's text, and the verdicts as the calls of include/becardlarder.h give them
  *
- * An answer below is 0 or a refusal number of document 01. A refused call changes no lent buffer.
+ * All checks of document 01 are made, since they take time; which of them fails is not told, since the benchmark has
+ * accepted inputs only. An `int` below answers whether the input is accepted. A refused call changes no lent buffer.
  */
 #ifndef BASELINE_H
 #define BASELINE_H
@@ -56,34 +57,34 @@ struct trial {
     int32_t differences[MOST_DIFFERENCES];
 };
 
-/* The condition of refusal 3. */
-int bad_level(size_t a, size_t b);
-
-/* The condition of refusal 5. */
-int bad_digits(uint32_t code, size_t digits);
-
-uint32_t run_table(const struct table *table, struct full_run *run);
-
-uint32_t check_trial(const struct trial *trial);
+/* Whether a/b is a level. */
+int good_level(size_t a, size_t b);
 
 /* e = floor(M * a / b). */
 size_t allowance(size_t rows, size_t a, size_t b);
 
-/* The full run of a trial, with buffers of its own. */
-uint32_t run_trial(const struct trial *trial, struct full_run *run);
+int run_table(const struct table *table, struct full_run *run);
 
-/* A refused file leaves nothing but zeros in the trial. */
-uint32_t read_trial(const uint8_t *file, size_t length, struct trial *trial);
+/* Whether the counts are in their ranges, and k is at most the offers. */
+int good_counts(const struct trial *trial);
 
-uint32_t write_trial(const struct trial *trial, uint8_t *out, size_t places, size_t *length);
+/* Whether an offer has a code of so many printed digits that no offer before it has. */
+int good_offer(const struct trial *trial, size_t offer);
 
-/* The report of a file, or its refusal, as text; 12 where the buffer is too short for it. */
-uint32_t report(const uint8_t *file, size_t length, char *out, size_t places, size_t *written);
+int check_trial(const struct trial *trial);
 
-/* As the calls of include/becardlarder.h. */
-uint32_t baseline_trial_verdicts(const uint8_t *file, size_t file_len, uint8_t *verdicts, size_t verdicts_len);
-uint32_t baseline_table_verdicts(const double *table, size_t table_len, size_t rows, size_t columns, size_t k, size_t a,
-                                 size_t b, size_t observed, double *work, size_t work_len, uint8_t *verdicts,
-                                 size_t verdicts_len);
+/* The full run of an accepted trial, with buffers of its own. */
+void run_trial(const struct trial *trial, struct full_run *run);
+
+int read_trial(const uint8_t *file, size_t length, struct trial *trial);
+
+int write_trial(const struct trial *trial, uint8_t *out, size_t places, size_t *length);
+
+/* The report of a file as text. */
+int report(const uint8_t *file, size_t length, char *out, size_t places, size_t *written);
+
+/* Of a file or a table: the step of each offer or column, and how many are rejected. */
+int verdicts_of_file(const uint8_t *file, size_t length, uint8_t *verdicts, size_t places, size_t *rejected);
+int verdicts_of_table(const struct table *table, uint8_t *verdicts, size_t places, size_t *rejected);
 
 #endif

@@ -1,6 +1,4 @@
 /* Trial files: reader and writer. */
-#include <string.h>
-
 #include "baseline.h"
 
 /* Kinds of word: bits 31 to 28. */
@@ -24,92 +22,71 @@ static int next(struct words *w, uint32_t kind, uint32_t *bits)
     return word >> 28 == kind;
 }
 
-static uint32_t read_level(struct words *w, struct trial *t)
+static int read_level(struct words *w, struct trial *t)
 {
     uint32_t bits;
     if (!next(w, LEVEL, &bits))
-        return 2;
+        return 0;
     t->a = bits >> 14;
     t->b = bits & 0x3FFF;
-    return bad_level(t->a, t->b) ? 3 : 0;
+    return good_level(t->a, t->b);
 }
 
-static uint32_t read_shape(struct words *w, struct trial *t)
+static int read_shape(struct words *w, struct trial *t)
 {
     uint32_t bits;
     if (!next(w, SHAPE, &bits))
-        return 2;
+        return 0;
     t->k = bits >> 16 & 0xFF;
     t->offers = bits >> 8 & 0xFF;
     t->pairs = bits & 0xFF;
-    if (bits >> 24 != 0 || t->pairs < 1 || t->pairs > MOST_PAIRS || t->offers < 1 || t->offers > MOST_OFFERS ||
-        t->k < 1 || t->k > MOST_K || t->k > t->offers)
-        return 4;
-    return 0;
+    return bits >> 24 == 0 && good_counts(t);
 }
 
-static uint32_t read_offers(struct words *w, struct trial *t)
+static int read_offers(struct words *w, struct trial *t)
 {
     uint32_t bits;
     for (size_t i = 0; i < t->offers; i++) {
         if (!next(w, OFFER, &bits))
-            return 2;
+            return 0;
         t->codes[i] = bits & 0xFFFFFF;
         t->digits[i] = (uint8_t)(bits >> 24);
-        if (bad_digits(t->codes[i], t->digits[i]))
-            return 5;
-        for (size_t j = 0; j < i; j++)
-            if (t->codes[j] == t->codes[i])
-                return 6;
+        if (!good_offer(t, i))
+            return 0;
     }
-    return 0;
+    return 1;
 }
 
-static uint32_t read_differences(struct words *w, struct trial *t)
+static int read_differences(struct words *w, struct trial *t)
 {
     uint32_t bits;
     for (size_t i = 0; i < t->offers * t->pairs; i++) {
         if (!next(w, DIFFERENCE, &bits))
-            return 2;
+            return 0;
         t->differences[i] = (int32_t)(bits ^ 0x8000000) - 0x8000000; /* 28 bits, two's complement */
         if (t->differences[i] < -MOST_DIFFERENCE)
-            return 7;
+            return 0;
     }
-    return 0;
+    return 1;
 }
 
-static uint32_t read_end(struct words *w, size_t before)
+static int read_end(struct words *w, size_t before)
 {
     uint32_t bits;
-    if (!next(w, END, &bits))
-        return 2;
-    return bits != before || w->left > 0 ? 8 : 0;
+    return next(w, END, &bits) && bits == before && w->left == 0;
 }
 
-static uint32_t read_words(struct words *w, struct trial *t)
-{
-    uint32_t refusal = read_level(w, t);
-    if (refusal == 0)
-        refusal = read_shape(w, t);
-    if (refusal == 0)
-        refusal = read_offers(w, t);
-    if (refusal == 0)
-        refusal = read_differences(w, t);
-    if (refusal == 0)
-        refusal = read_end(w, 2 + t->offers + t->offers * t->pairs);
-    return refusal;
-}
-
-uint32_t read_trial(const uint8_t *file, size_t length, struct trial *t)
+int read_trial(const uint8_t *file, size_t length, struct trial *trial)
 {
     struct words w = {file, length / 4};
-    memset(t, 0, sizeof *t);
-    if (length == 0 || length % 4 != 0 || length > LONGEST_FILE)
-        return 1;
-    uint32_t refusal = read_words(&w, t);
-    if (refusal != 0)
-        memset(t, 0, sizeof *t);
-    return refusal;
+    struct trial t = {0};
+    if (length % 4 != 0 || length > LONGEST_FILE)
+        return 0;
+    if (!read_level(&w, &t) || !read_shape(&w, &t) || !read_offers(&w, &t) || !read_differences(&w, &t) ||
+        !read_end(&w, 2 + t.offers + t.offers * t.pairs))
+        return 0;
+    *trial = t;
+    return 1;
 }
 
 /* A word of that kind; answers the place after it. */
@@ -123,15 +100,13 @@ static uint8_t *put(uint8_t *out, uint32_t kind, uint32_t bits)
     return out + 4;
 }
 
-uint32_t write_trial(const struct trial *t, uint8_t *out, size_t places, size_t *length)
+int write_trial(const struct trial *t, uint8_t *out, size_t places, size_t *length)
 {
-    *length = 0;
-    uint32_t refusal = check_trial(t);
-    if (refusal != 0)
-        return refusal;
+    if (!check_trial(t))
+        return 0;
     size_t n = t->offers * t->pairs, before = 2 + t->offers + n;
     if (places < 4 * (before + 1))
-        return 12;
+        return 0;
     out = put(out, LEVEL, (uint32_t)(t->a << 14 | t->b));
     out = put(out, SHAPE, (uint32_t)(t->k << 16 | t->offers << 8 | t->pairs));
     for (size_t i = 0; i < t->offers; i++)
@@ -140,5 +115,5 @@ uint32_t write_trial(const struct trial *t, uint8_t *out, size_t places, size_t 
         out = put(out, DIFFERENCE, (uint32_t)t->differences[i] & 0xFFFFFFF);
     put(out, END, (uint32_t)before);
     *length = 4 * (before + 1);
-    return 0;
+    return 1;
 }

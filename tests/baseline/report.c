@@ -1,4 +1,4 @@
-/* The report's text, and the calls of include/becardlarder.h. */
+/* The report's text, and the verdicts. */
 #include <stdarg.h>
 #include <stdio.h>
 #include <string.h>
@@ -37,53 +37,48 @@ static void add_run(struct text *text, const struct trial *t, const struct full_
     add(text, "end %zu\n", run->rejected);
 }
 
-uint32_t report(const uint8_t *file, size_t length, char *out, size_t places, size_t *written)
+/* The trial of a file and its full run. */
+static int run_file(const uint8_t *file, size_t length, struct trial *t, struct full_run *run)
+{
+    if (!read_trial(file, length, t))
+        return 0;
+    run_trial(t, run);
+    return 1;
+}
+
+int report(const uint8_t *file, size_t length, char *out, size_t places, size_t *written)
 {
     struct text text;
     struct trial t;
     struct full_run run;
     text.length = 0;
-    *written = 0;
-    uint32_t refusal = read_trial(file, length, &t);
-    if (refusal == 0)
-        refusal = run_trial(&t, &run);
-    if (refusal == 0)
-        add_run(&text, &t, &run);
-    else
-        add(&text, "refused %u\n", refusal);
+    if (!run_file(file, length, &t, &run))
+        return 0;
+    add_run(&text, &t, &run);
     if (places < text.length)
-        return 12;
+        return 0;
     memcpy(out, text.bytes, text.length);
     *written = text.length;
-    return 0;
+    return 1;
 }
 
-uint32_t baseline_trial_verdicts(const uint8_t *file, size_t file_len, uint8_t *verdicts, size_t verdicts_len)
+int verdicts_of_file(const uint8_t *file, size_t length, uint8_t *verdicts, size_t places, size_t *rejected)
 {
     struct trial t;
     struct full_run run;
-    uint32_t refusal = read_trial(file, file_len, &t);
-    if (refusal == 0 && verdicts_len < t.offers)
-        refusal = 12;
-    if (refusal == 0)
-        refusal = run_trial(&t, &run);
-    if (refusal != 0)
-        return 100 + refusal;
+    if (!run_file(file, length, &t, &run) || places < t.offers)
+        return 0;
     memcpy(verdicts, run.step, t.offers);
-    return (uint32_t)run.rejected;
+    *rejected = run.rejected;
+    return 1;
 }
 
-uint32_t baseline_table_verdicts(const double *table, size_t table_len, size_t rows, size_t columns, size_t k, size_t a,
-                                 size_t b, size_t observed, double *work, size_t work_len, uint8_t *verdicts,
-                                 size_t verdicts_len)
+int verdicts_of_table(const struct table *t, uint8_t *verdicts, size_t places, size_t *rejected)
 {
-    struct table t = {table, table_len, rows, columns, k, a, b, observed, work, work_len};
     struct full_run run;
-    if (verdicts_len < columns)
-        t.places = 0; /* then the table's own refusals come first, and 12 last */
-    uint32_t refusal = run_table(&t, &run);
-    if (refusal != 0)
-        return 100 + refusal;
-    memcpy(verdicts, run.step, columns);
-    return (uint32_t)run.rejected;
+    if (places < t->columns || !run_table(t, &run))
+        return 0;
+    memcpy(verdicts, run.step, t->columns);
+    *rejected = run.rejected;
+    return 1;
 }

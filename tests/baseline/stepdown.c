@@ -4,20 +4,14 @@
 
 #include "baseline.h"
 
-int bad_level(size_t a, size_t b)
+int good_level(size_t a, size_t b)
 {
-    return a == 0 || b == 0 || a >= b || b > MOST_B;
+    return 0 < a && a < b && b <= MOST_B;
 }
 
 size_t allowance(size_t rows, size_t a, size_t b)
 {
     return rows * a / b;
-}
-
-static int bad_shape(const struct table *t)
-{
-    return t->rows < 1 || t->rows > MOST_ROWS || t->columns < 1 || t->columns > MOST_COLUMNS || t->k < 1 ||
-           t->k > MOST_K || t->k > t->columns;
 }
 
 static int all_finite(const double *values, size_t n)
@@ -28,22 +22,16 @@ static int all_finite(const double *values, size_t n)
     return 1;
 }
 
-/* 4, 3, 9, 10, 11, 12. */
-static uint32_t refusal_of(const struct table *t)
+static int good_shape(const struct table *t)
 {
-    if (bad_shape(t))
-        return 4;
-    if (bad_level(t->a, t->b))
-        return 3;
-    if (t->length != t->rows * t->columns)
-        return 9;
-    if (t->observed >= t->rows)
-        return 10;
-    if (!all_finite(t->values, t->length))
-        return 11;
-    if (t->places < t->rows)
-        return 12;
-    return 0;
+    return 1 <= t->rows && t->rows <= MOST_ROWS && 1 <= t->columns && t->columns <= MOST_COLUMNS && 1 <= t->k &&
+           t->k <= MOST_K && t->k <= t->columns;
+}
+
+static int check_table(const struct table *t)
+{
+    return good_shape(t) && good_level(t->a, t->b) && t->length == t->rows * t->columns && t->observed < t->rows &&
+           all_finite(t->values, t->length) && t->rows <= t->places;
 }
 
 /* Plus zero for either zero. */
@@ -170,16 +158,15 @@ static void count_rows(const struct table *t, struct full_run *run)
             run->count[j] += t->values[g * t->columns + j] >= seen[j];
 }
 
-uint32_t run_table(const struct table *t, struct full_run *run)
+int run_table(const struct table *t, struct full_run *run)
 {
-    uint32_t refusal = refusal_of(t);
+    if (!check_table(t))
+        return 0;
     memset(run, 0, sizeof *run);
-    if (refusal != 0)
-        return refusal;
     while (step(t, run))
         ;
     for (size_t g = 0; g < t->rows; g++)
         t->work[g] = 0;
     count_rows(t, run);
-    return 0;
+    return 1;
 }

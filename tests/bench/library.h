@@ -1,4 +1,7 @@
-/* The calls of the library that only the benchmark makes: crates/benchcalls. */
+/*
+ * The calls of the library that only the benchmark makes: crates/benchcalls. Each answers 0 or the refusal number; a
+ * refused call changes nothing that is lent.
+ */
 #ifndef LIBRARY_H
 #define LIBRARY_H
 
@@ -8,20 +11,20 @@
 /* a, b, k, offers and pairs of a trial. */
 enum { FIGURES = 5 };
 
-/* 0 or the refusal number. */
 uint32_t bench_read(const uint8_t *file, size_t file_len, size_t figures[FIGURES], uint32_t codes[MOST_OFFERS],
                     uint8_t digits[MOST_OFFERS], int32_t differences[MOST_DIFFERENCES]);
 
-/* The length of the file, or 0 where writing is refused. */
-size_t bench_write(const size_t figures[FIGURES], const uint32_t codes[MOST_OFFERS], const uint8_t digits[MOST_OFFERS],
-                   const int32_t differences[MOST_DIFFERENCES], uint8_t *out, size_t out_len);
+/* `written` is the length of the file. */
+uint32_t bench_write(const size_t figures[FIGURES], const uint32_t codes[MOST_OFFERS],
+                     const uint8_t digits[MOST_OFFERS], const int32_t differences[MOST_DIFFERENCES], uint8_t *out,
+                     size_t out_len, size_t *written);
 
-/* The length of the text, or 0 where the buffer is too short. */
-size_t bench_report(const uint8_t *file, size_t file_len, uint8_t *text, size_t text_len);
+/* `written` is the length of the text. */
+uint32_t bench_report(const uint8_t *file, size_t file_len, uint8_t *text, size_t text_len, size_t *written);
 
-/* 0 or the refusal number. */
+/* The verdict of a column is the step that rejected it, or 0. */
 uint32_t bench_table(const double *table, size_t table_len, size_t rows, size_t columns, size_t k, size_t a, size_t b,
                      size_t observed, double *work, size_t work_len, size_t *steps, double criticals[MOST_COLUMNS],
-                     size_t counts[MOST_COLUMNS]);
+                     size_t counts[MOST_COLUMNS], size_t verdicts[MOST_COLUMNS]);
 
 #endif

@@ -35,69 +35,77 @@ static const struct input *next(int which)
     return &inputs[turn[which]++ & (prepared - 1)];
 }
 
+/* All inputs are accepted. */
+static void accepted(int holds, const char *who)
+{
+    if (!holds)
+        fail("an input is refused", who);
+}
+
 static void run_baseline(void)
 {
-    const struct table *t = &next(BASELINE)->table;
-    answers[BASELINE].number =
-        baseline_table_verdicts(t->values, t->length, t->rows, t->columns, t->k, t->a, t->b, t->observed, t->work,
-                                t->places, answers[BASELINE].bytes, MOST_COLUMNS);
+    struct answer *a = &answers[BASELINE];
+    accepted(verdicts_of_table(&next(BASELINE)->table, a->bytes, MOST_COLUMNS, &a->number), "baseline");
 }
 
 static void run_library(void)
 {
     const struct table *t = &next(LIBRARY)->table;
-    answers[LIBRARY].number = becardlarder_table_verdicts(t->values, t->length, t->rows, t->columns, t->k, t->a, t->b, t->observed,
-                                             t->work, t->places, answers[LIBRARY].bytes, MOST_COLUMNS);
+    struct answer *a = &answers[LIBRARY];
+    a->number = becardlarder_table_verdicts(t->values, t->length, t->rows, t->columns, t->k, t->a, t->b, t->observed,
+                                            t->work, t->places, a->bytes, MOST_COLUMNS);
+    accepted(a->number < BECARDLARDER_REFUSED, "library");
 }
 
 static void verdicts_baseline(void)
 {
-    answers[BASELINE].number =
-        baseline_trial_verdicts(next(BASELINE)->file, LONGEST_FILE, answers[BASELINE].bytes, MOST_OFFERS);
+    struct answer *a = &answers[BASELINE];
+    accepted(verdicts_of_file(next(BASELINE)->file, LONGEST_FILE, a->bytes, MOST_OFFERS, &a->number), "baseline");
 }
 
 static void verdicts_library(void)
 {
-    answers[LIBRARY].number = becardlarder_trial_verdicts(next(LIBRARY)->file, LONGEST_FILE, answers[LIBRARY].bytes, MOST_OFFERS);
+    struct answer *a = &answers[LIBRARY];
+    a->number = becardlarder_trial_verdicts(next(LIBRARY)->file, LONGEST_FILE, a->bytes, MOST_OFFERS);
+    accepted(a->number < BECARDLARDER_REFUSED, "library");
 }
 
 static void report_baseline(void)
 {
     struct answer *a = &answers[BASELINE];
-    if (report(next(BASELINE)->file, LONGEST_FILE, (char *)a->bytes, LONGEST_REPORT, &a->number) != 0)
-        fail("report refused", "baseline");
+    accepted(report(next(BASELINE)->file, LONGEST_FILE, (char *)a->bytes, LONGEST_REPORT, &a->number), "baseline");
 }
 
 static void report_library(void)
 {
-    answers[LIBRARY].number =
-        bench_report(next(LIBRARY)->file, LONGEST_FILE, answers[LIBRARY].bytes, LONGEST_REPORT);
+    struct answer *a = &answers[LIBRARY];
+    accepted(bench_report(next(LIBRARY)->file, LONGEST_FILE, a->bytes, LONGEST_REPORT, &a->number) == 0, "library");
 }
 
 static void read_baseline(void)
 {
-    answers[BASELINE].number = read_trial(next(BASELINE)->file, LONGEST_FILE, &answers[BASELINE].trial);
+    accepted(read_trial(next(BASELINE)->file, LONGEST_FILE, &answers[BASELINE].trial), "baseline");
 }
 
 static void read_library(void)
 {
     struct answer *a = &answers[LIBRARY];
-    a->number = bench_read(next(LIBRARY)->file, LONGEST_FILE, a->figures, a->trial.codes, a->trial.digits,
-                           a->trial.differences);
+    accepted(bench_read(next(LIBRARY)->file, LONGEST_FILE, a->figures, a->trial.codes, a->trial.digits,
+                        a->trial.differences) == 0, "library");
 }
 
 static void write_baseline(void)
 {
     struct answer *a = &answers[BASELINE];
-    if (write_trial(&next(BASELINE)->trial, a->bytes, LONGEST_FILE, &a->number) != 0)
-        fail("writing refused", "baseline");
+    accepted(write_trial(&next(BASELINE)->trial, a->bytes, LONGEST_FILE, &a->number), "baseline");
 }
 
 static void write_library(void)
 {
     const struct input *in = next(LIBRARY);
-    answers[LIBRARY].number = bench_write(in->figures, in->trial.codes, in->trial.digits, in->trial.differences,
-                                          answers[LIBRARY].bytes, LONGEST_FILE);
+    struct answer *a = &answers[LIBRARY];
+    accepted(bench_write(in->figures, in->trial.codes, in->trial.digits, in->trial.differences, a->bytes, LONGEST_FILE,
+                         &a->number) == 0, "library");
 }
 
 const call *calls_of(const struct task *task)
@@ -125,7 +133,7 @@ static void make_file(const struct task *task, size_t number, struct input *in)
     size_t length;
     make_trial(task->recipe.pattern, task->recipe.k, number, &in->trial);
     figures_of(&in->trial, in->figures);
-    if (write_trial(&in->trial, in->file, LONGEST_FILE, &length) != 0 || length != LONGEST_FILE)
+    if (!write_trial(&in->trial, in->file, LONGEST_FILE, &length) || length != LONGEST_FILE)
         fail("not a largest file", task->name);
 }
 
@@ -162,20 +170,22 @@ static void same(int holds, const struct task *task, const char *what)
         fail(what, task->name);
 }
 
-/* All that a full run of a table answers, beyond its verdicts. */
+/* All that a full run of a table answers. */
 static struct facts compare_run(const struct task *task, const struct table *t)
 {
     struct full_run run;
-    size_t steps, counts[MOST_COLUMNS];
+    size_t steps, counts[MOST_COLUMNS], verdicts[MOST_COLUMNS];
     double criticals[MOST_COLUMNS];
     static const double cleared[MOST_ROWS];
-    same(run_table(t, &run) == 0, task, "the baseline refuses the table");
+    same(run_table(t, &run), task, "the baseline refuses the table");
     uint32_t refusal = bench_table(t->values, t->length, t->rows, t->columns, t->k, t->a, t->b, t->observed, t->work,
-                                   t->places, &steps, criticals, counts);
+                                   t->places, &steps, criticals, counts, verdicts);
     same(refusal == 0, task, "the library refuses the table");
     same(steps == run.steps, task, "steps differ");
     same(memcmp(criticals, run.critical, sizeof criticals) == 0, task, "critical values differ");
     same(memcmp(counts, run.count, sizeof counts) == 0, task, "counts differ");
+    for (size_t j = 0; j < MOST_COLUMNS; j++)
+        same(verdicts[j] == run.step[j], task, "verdicts differ");
     same(memcmp(t->work, cleared, sizeof cleared) == 0, task, "the work buffer is not cleared");
     return (struct facts){run.steps, run.rejected, run.sets, {0, 0}};
 }
@@ -214,7 +224,7 @@ static struct facts compare_file(const struct task *task, const struct input *in
         same(memcmp(answers[LIBRARY].bytes, in->file, LONGEST_FILE) == 0, task, "another file is written");
     if (task->kind == READING || task->kind == WRITING)
         return (struct facts){0};
-    same(run_trial(&in->trial, &run) == 0, task, "the baseline refuses the trial");
+    run_trial(&in->trial, &run);
     return (struct facts){run.steps, run.rejected, run.sets, {0, 0}};
 }
 

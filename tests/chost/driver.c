@@ -67,7 +67,7 @@ static void call_file(void)
 static void call_table(void)
 {
     result = becardlarder_table_verdicts(lent(data, n[0]), n[0], n[1], n[2], n[3], n[4], n[5], n[6],
-                            lent(work, n[7]), n[7], lent(verdicts, n[8]), n[8]);
+                                         lent(work, n[7]), n[7], lent(verdicts, n[8]), n[8]);
 }
 
 /* Makes a call on the measured stack. */

@@ -11,7 +11,7 @@ def steps(run) -> bytes:
     return bytes(v.step if isinstance(v, Rejected) else 0 for v in run.verdicts)
 
 
-def trial_verdicts(data: bytes, buffer: bytearray) -> int:
+def on_file(data: bytes, buffer: bytearray) -> int:
     """The number of rejected offers, or 100 plus the refusal number.
 
     The buffer's first bytes hold, per offer, the rejecting step or 0. A buffer
@@ -27,7 +27,7 @@ def trial_verdicts(data: bytes, buffer: bytearray) -> int:
     return run.rejected()
 
 
-def table_verdicts(values, rows, columns, k, a, b, observed, work, buffer) -> int:
+def on_table(values, rows, columns, k, a, b, observed, work, buffer) -> int:
     """The number of rejected columns, or 100 plus the refusal number.
 
     The buffer's first bytes hold, per column, the rejecting step or 0, and the work
