@@ -1,14 +1,23 @@
-"""The text tool: stable both ways, clear on bad text, and of one mind with the reference."""
+"""The text tool: packs and shows without loss, names the line of a bad text, writes whole or not.
 
+What a file is refused for is not its business: a text of a bad trial is packed, and the
+reference, like the report program, says the number.
+"""
+
+import os
 import random
+import resource
+import signal
+import stat
 import subprocess
 import sys
+import tempfile
 import unittest
 from importlib.util import module_from_spec, spec_from_file_location
 from pathlib import Path
 
-from generators.files import damaged
-from generators.trials import valid_trials
+from generators.files import damaged, further_damaged
+from generators.trials import some_trial, valid_trials
 from reference.refusals import Refused
 from reference.trialfile import read, write
 
@@ -18,13 +27,21 @@ _spec = spec_from_file_location("trialtext", TOOL)
 trialtext = module_from_spec(_spec)
 _spec.loader.exec_module(trialtext)
 
-GOOD = "level 1 4\nk 1\noffer 0042 5 3 4\noffer 7 2 -1 1\n"
+GOOD = b"level 1 4\nk 1\noffer 0042 5 3 4\noffer 7 2 -1 1\n"
+W = (ROOT / "samples" / "w.trial").read_bytes()
 
 
-def call(verb, data):
+def call(*words, data=b"", stdout=subprocess.PIPE, **more):
     """Exit status, standard output and standard error of the tool."""
-    done = subprocess.run([sys.executable, TOOL, verb], input=data, capture_output=True)
+    done = subprocess.run([sys.executable, TOOL, *words], input=data, stdout=stdout,
+                          stderr=subprocess.PIPE, **more)
     return done.returncode, done.stdout, done.stderr.decode()
+
+
+def number_of(data: bytes) -> int:
+    """0, or what the reference refuses a file for."""
+    answer = read(data)
+    return answer.number if isinstance(answer, Refused) else 0
 
 
 class Samples(unittest.TestCase):
@@ -33,69 +50,247 @@ class Samples(unittest.TestCase):
         self.assertGreaterEqual(len(texts), 3)
         for text in texts:
             data = text.with_suffix(".trial").read_bytes()
-            self.assertEqual(trialtext.make(text.read_text()), data)
-            self.assertEqual(write(read(data)), data)
+            self.assertEqual(trialtext.make(text.read_bytes()), data)
+            self.assertEqual(number_of(data), 0)
 
 
-class Stable(unittest.TestCase):
-    def test_make_show_make(self):
-        for _, trial in valid_trials(random.Random("text"), each=1):
-            data = write(trial)
+class RoundTrips(unittest.TestCase):
+    def check(self, data, name):
+        """A file of whole words is made again from what is shown; else it is not shown."""
+        if data and len(data) % 4 == 0:
             text = trialtext.show(data)
-            self.assertEqual(trialtext.make(text), data)
-            self.assertEqual(trialtext.show(trialtext.make(text)), text)
+            self.assertEqual(trialtext.make(text.encode()), data, name)
+            return text
+        with self.assertRaises(trialtext.Bad, msg=name):
+            trialtext.show(data)
+        return ""
 
-    def test_refusals_agree_with_the_reference(self):
-        for name, data in damaged(random.Random("text")):
-            answer = read(data)
+    def test_trials(self):
+        for name, trial in valid_trials(random.Random("text"), each=2):
+            text = self.check(write(trial), name)
+            head = f"# offers: {trial.offers}, pairs: {trial.pairs}\nlevel "
+            self.assertTrue(text.startswith(head), text)
+            self.assertNotIn("word", text)
+
+    def test_damaged_files(self):
+        rng, as_trials = random.Random("text"), set()
+        for name, data in (*damaged(rng), *further_damaged(rng)):
+            if "level" in self.check(data, name):
+                as_trials.add(number_of(data))
+        self.assertEqual(as_trials, {0, 3, 4, 5, 6, 7})  # what fits the lines of a trial
+
+    def test_any_words(self):
+        rng = random.Random("words")
+        for number in range(2000):
+            words = rng.randint(1, 12)
+            kinds = [1, 2] + [rng.choice((3, 4, 15)) for _ in range(words)]
+            data = b"".join((kind << 28 | rng.getrandbits(rng.randint(0, 28))).to_bytes(4, "little")
+                            for kind in (kinds if number % 2 else rng.choices(range(16), k=words)))
+            self.check(data, data.hex())
+
+
+class BadTrials(unittest.TestCase):
+    """Texts of trials that are no good: packed as they stand, for the report program to refuse."""
+
+    def test_each_number(self):
+        lines = GOOD.decode()
+        for number, text in (
+                (3, lines.replace("1 4", "0 4")), (3, lines.replace("1 4", "4 4")),
+                (3, lines.replace("1 4", "1 0")), (4, lines.replace("k 1", "k 0")),
+                (4, lines.replace("k 1", "k 3")), (4, lines.replace("k 1", "k 255")),
+                (4, "level 1 4\nk 1\n"), (4, "level 1 4\nk 1\noffer 1\n"),
+                (4, "level 1 4\nk 1\noffer 1" + " 1" * 10),
+                (4, "level 1 4\nk 1\n" + "".join(f"offer {i} 1\n" for i in range(17))),
+                (1, "level 1 4\nk 1\n" + "".join(f"offer {i} {'1 ' * 9}\n" for i in range(17))),
+                (5, lines.replace("0042", "00000042")), (5, lines.replace("0042", "16777215")),
+                (6, lines.replace("offer 7", "offer 42")), (7, lines.replace(" 5", " -134217728")),
+                (2, "word 1 16388\nword 2 66049\n"), (8, trialtext.show(W[:-4] + b"\0\0\0\xf0")),
+                (0, lines.replace(" 5", " -134217727")), (0, lines.replace(" 5", " +134217727"))):
+            self.assertEqual(number_of(trialtext.make(text.encode())), number, text)
+
+
+class BadTexts(unittest.TestCase):
+    def check(self, line, text, says=""):
+        """A text is refused at that line, in those words."""
+        with self.assertRaises(trialtext.BadText, msg=text) as caught:
+            trialtext.make(text)
+        self.assertEqual(caught.exception.args[0], line, text)
+        self.assertIn(says, caught.exception.args[1])
+        self.assertTrue(str(caught.exception).isascii() and "\n" not in str(caught.exception))
+
+    def test_what_does_not_fit(self):
+        for line, old, new in (
+                (1, b"1 4", b"1 16384"), (1, b"1 4", b"16384 4"), (1, b"1 4", b"-1 4"),
+                (1, b"1 4", b"1"), (1, b"1 4", b"1 4 4"), (1, b"1 4", b"1/4"), (2, b"k 1", b"k 256"),
+                (2, b"k 1", b"k"), (2, b"k 1", b"k one"), (3, b"0042", b"4x2"),
+                (3, b"0042", b"16777216"), (3, b"0042", b"0" * 16), (3, b"0042", b"-42"),
+                (3, b" 0042 5 3 4", b""), (3, b" 5", b" 134217728"), (3, b" 5", b" -134217729"),
+                (4, b"-1", b"1.5"), (4, b"-1", b"1e3"), (4, b"-1", b"1_0"), (4, b"-1", b"- 1"),
+                (4, b" -1", b""), (4, b"offer 7", b"offre 7"), (4, b"offer 7", b"Offer 7")):
+            self.check(line, GOOD.replace(old, new))
+
+    def test_what_is_missing_or_twice(self):
+        self.check(1, b"", "no 'level' line")
+        self.check(3, b"\n\n# nothing", "no 'level' line")
+        self.check(4, GOOD.replace(b"level 1 4\n", b"#\n"), "no 'level' line")
+        self.check(4, GOOD.replace(b"k 1", b""), "no 'k' line")
+        self.check(5, GOOD + b"level 1 4", "a second 'level' line")
+        self.check(6, GOOD + b"\nk 1\n", "a second 'k' line")
+        self.check(1, GOOD + b"word 1 2", "a text with 'word' lines has no others")
+        self.check(2, b"word 1 2\nk 1\n", "a text with 'word' lines has no others")
+        self.check(1, b"word 16 1", "from 0 to 15")
+        self.check(1, b"word 1 268435456", "from 0 to 268435455")
+
+    def test_too_many(self):
+        self.check(258, b"level 1 4\nk 1\n" + b"offer 1 1\n" * 256, "more than 255 offers")
+        self.check(3, b"level 1 4\nk 1\noffer 1" + b" 1" * 256, "more than 255 differences")
+        trialtext.make(b"level 1 4\nk 1\n" + (b"offer 1" + b" 1" * 255 + b"\n") * 255)
+
+    def test_characters_that_do_not_show(self):
+        codes = (*range(9), 0x0B, 0x0C, *range(0x0E, 0x20), *range(0x7F, 0xA1), 0xAD, 0x61C, 0x1680,
+                 *range(0x2000, 0x2010), *range(0x2028, 0x2030), 0x205F, 0x2060, 0x2066, 0x3000,
+                 0xFEFF, 0xFFF9, 0xE0001, 0xE0020)
+        rng = random.Random("hidden")
+        for character in map(chr, codes):
+            for place in (0, GOOD.index(b"0042") + 2, rng.randrange(1, len(GOOD)), len(GOOD)):
+                if (character, place) != ("\ufeff", 0):
+                    self.refuse_at(place, character.encode())
+            self.check(2, b"level 1 4\n# a comment" + character.encode() + b"\n",
+                       f"U+{ord(character):04X}")
+
+    def refuse_at(self, place, inserted):
+        """GOOD with bytes inserted at a place is refused at that place's line."""
+        self.check(GOOD[:place].count(b"\n") + 1, GOOD[:place] + inserted + GOOD[place:])
+
+    def test_other_characters(self):
+        for inserted in ("\u0661", "\u00b2", "\uff11", "\u3164", "\u0301", "\u2212", "\u00e9"):
+            for place in (GOOD.index(b"1 4"), GOOD.index(b"0042"), GOOD.index(b"-1")):
+                self.refuse_at(place, inserted.encode())
+        for inserted in (b"\xff", b"\xc3", b"\xed\xa0\x80", b"\xc0\x80"):
+            self.refuse_at(GOOD.index(b"0042"), inserted)
+            self.check(1, b"# " + inserted + b"\n" + GOOD, "UTF-8")
+
+    def test_line_ends(self):
+        self.refuse_at(GOOD.index(b"k 1"), b"\r")
+        self.refuse_at(len(GOOD), b"\r")
+        self.check(1, GOOD.replace(b"\n", b"\r"), "U+000D")
+        self.check(1, GOOD.replace(b"\n", b"\r\r\n"), "U+000D")
+
+    def test_damaged_texts(self):
+        """One byte of a text is another: packed, or refused at some line of it."""
+        rng, made = random.Random("damaged"), 0
+        for _ in range(3000):
+            text = bytearray(trialtext.show(write(some_trial(rng, 3, 3))).encode())
+            text[rng.randrange(len(text))] = rng.choice((rng.randrange(256), *b"0123456789 -#\n"))
             try:
-                trialtext.show(data)
-                number = 0
-            except trialtext.Refused as refused:
-                number = refused.args[0]
-            self.assertEqual(number, answer.number if isinstance(answer, Refused) else 0, name)
+                made += len(trialtext.make(bytes(text))) % 4 == 0
+            except trialtext.BadText as bad:
+                self.assertLessEqual(1, bad.args[0])
+                self.assertLessEqual(bad.args[0], text.count(b"\n") + 1)
+        self.assertGreater(made, 500)
+
+    def test_layout_is_free(self):
+        for free in (b"\n# first\n  offer 0042 +5 03 4 # more\n\toffer 7 2 -1 1\nk 1\nlevel 1 4",
+                     GOOD.replace(b"\n", b"\r\n"), b"\xef\xbb\xbf" + GOOD, GOOD + b"\n\n", GOOD[:-1],
+                     "# Läden, 商店 ✓\t\n".encode() + GOOD):
+            self.assertEqual(trialtext.make(free), W)
 
 
 class Calls(unittest.TestCase):
-    def test_show_and_make(self):
-        status, data, _ = call("make", GOOD.encode())
-        self.assertEqual((status, data), (0, (ROOT / "samples/w.trial").read_bytes()))
-        status, text, _ = call("show", data)
-        self.assertEqual((status, text.decode()), (0, "# offers: 2, pairs: 3\n" + GOOD))
+    def setUp(self):
+        folder = tempfile.TemporaryDirectory()
+        self.addCleanup(folder.cleanup)
+        self.folder = Path(folder.name)
+        self.out = self.folder / "w.trial"
 
-    def test_bad_file(self):
-        status, out, message = call("show", b"abc")
-        self.assertEqual((status, out), (1, b""))
-        self.assertTrue(message.startswith("refused 1: "), message)
+    def left(self):
+        """What stands in the folder."""
+        return {path.name: path.read_bytes() for path in self.folder.iterdir()}
 
-    def test_bad_usage(self):
-        self.assertEqual(call("other", b"")[0], 2)
+    def test_make_and_show(self):
+        self.assertEqual(call("make", self.out, data=GOOD), (0, b"", ""))
+        self.assertEqual(self.left(), {"w.trial": W})
+        self.assertEqual(call("show", data=W), (0, b"# offers: 2, pairs: 3\n" + GOOD, ""))
+
+    def test_a_file_that_is_there(self):
+        self.out.write_bytes(b"old")
+        self.out.chmod(0o640)
+        link = self.folder / "link"
+        link.symlink_to("w.trial")
+        self.assertEqual(call("make", link, data=GOOD)[0], 0)
+        self.assertEqual(self.left(), {"w.trial": W, "link": W})
+        self.assertTrue(link.is_symlink())
+        self.assertEqual(stat.S_IMODE(self.out.stat().st_mode), 0o640)
 
     def test_bad_text(self):
-        status, out, message = call("make", b"level 4 4\n")
-        self.assertEqual((status, out), (1, b""))
-        self.assertTrue(message.startswith("line 1: "), message)
+        for old in ({}, {"w.trial": b"old"}):
+            for name, data in old.items():
+                (self.folder / name).write_bytes(data)
+            status, out, message = call("make", self.out, data=GOOD + b"offer\n")
+            self.assertEqual((status, out, self.left()), (1, b"", old))
+            self.assertRegex(message, r"\Aline 5: .*\n\Z")
 
-    def test_line_numbers(self):
-        bad = [(1, ""), (4, GOOD.replace("level 1 4\n", "")[:-1] + "\n#\n"),
-               (1, GOOD.replace("1 4", "0 4")), (1, GOOD.replace("1 4", "1 16384")),
-               (1, GOOD.replace("1 4", "1")), (5, GOOD + "level 1 4"),
-               (2, GOOD.replace("k 1", "k 3")), (2, GOOD.replace("k 1", "k 5")),
-               (3, GOOD.replace("0042", "4x2")),
-               (3, GOOD.replace("0042", "00000042")), (4, GOOD.replace("offer 7", "offer 42")),
-               (4, GOOD.replace(" -1", "")), (3, GOOD.replace("5", "134217728")),
-               (4, GOOD.replace("-1", "1.5")), (4, GOOD.replace("offer 7", "offre 7")),
-               (3, "level 1 4\nk 1\noffer 1\n"), (3, "level 1 4\nk 1\noffer 1" + " 1" * 10),
-               (19, "level 1 4\nk 1\n" + "".join(f"offer {i} 1\n" for i in range(17))),
-               (3, "level 1 4\nk 1\noffer \u0661 1\n"), (2, "level 1 4\nk 1\n")]
-        for line, text in bad:
-            with self.assertRaises(trialtext.BadText, msg=text) as caught:
-                trialtext.make(text)
-            self.assertEqual(caught.exception.args[0], line, text)
+    def test_bad_file(self):
+        self.assertEqual(call("show", data=b"abcde"), (1, b"", "5 bytes are no words of 4 bytes each\n"))
+        self.assertEqual(call("show", data=b""), (1, b"", "0 bytes are no words of 4 bytes each\n"))
 
-    def test_layout_is_free(self):
-        free = "\n# first\n  offer 0042 +5 03 4 # more\r\n\toffer 7 2 -1 1\nk 1\nlevel 1 4"
-        self.assertEqual(trialtext.make(free), trialtext.make(GOOD))
+    def test_an_endless_stream(self):
+        for words in (("show",), ("make", self.out)):
+            with open("/dev/zero", "rb") as zeros:
+                done = subprocess.run([sys.executable, TOOL, *words], stdin=zeros,
+                                      capture_output=True, timeout=20)
+            self.assertEqual((done.returncode, done.stdout), (1, b""))
+            self.assertEqual(done.stderr.count(b"\n"), 1)
+        self.assertEqual(self.left(), {})
+
+    def test_bad_usage(self):
+        for words in ((), ("other",), ("make",), ("show", "x"), ("make", "x", "y")):
+            status, out, message = call(*words, data=GOOD, cwd=self.folder)
+            self.assertEqual((status, out), (2, b""))
+            self.assertIn("trialtext.py make FILE", message)
+        self.assertEqual(self.left(), {})
+
+    def test_no_place(self):
+        for path in ("/dev/full", self.folder, self.folder / "none" / "w.trial",
+                     self.folder / ("x" * 300)):
+            status, out, message = call("make", path, data=GOOD)
+            self.assertEqual((status, out), (1, b""))
+            self.assertRegex(message, r"\A[^\n]*: [A-Z][a-z ]+\n\Z")
+        self.assertEqual(self.left(), {})
+        self.assertTrue(stat.S_ISCHR(os.stat("/dev/full").st_mode))
+
+    def test_a_full_disk(self):
+        """A file may grow to 16 bytes: the write fails as on a full disk, and nothing is left."""
+        def limit():
+            signal.signal(signal.SIGXFSZ, signal.SIG_IGN)
+            resource.setrlimit(resource.RLIMIT_FSIZE, (16, 16))
+
+        for old in ({}, {"w.trial": b"old"}):
+            for name, data in old.items():
+                (self.folder / name).write_bytes(data)
+            status, _, message = call("make", self.out, data=GOOD, preexec_fn=limit)
+            self.assertEqual((status, self.left()), (1, old))
+            self.assertRegex(message, r"\A[^\n]*w\.trial: File too large\n\Z")
+
+    def test_standard_output(self):
+        with open("/dev/full", "wb") as full:
+            self.assertEqual(call("show", data=W, stdout=full)[::2],
+                             (1, "standard output: No space left on device\n"))
+        reader, writer = os.pipe()
+        os.close(reader)
+        self.assertEqual(call("show", data=W, stdout=writer)[::2],
+                         (1, "standard output: Broken pipe\n"))
+        os.close(writer)
+        self.assertEqual(call("show", data=W, preexec_fn=lambda: os.close(1))[::2],
+                         (1, "standard output: Bad file descriptor\n"))
+
+    def test_no_standard_input(self):
+        self.assertEqual(call("make", self.out, preexec_fn=lambda: os.close(0))[::2],
+                         (1, "standard input: Bad file descriptor\n"))
+        self.assertEqual(self.left(), {})
+
+    def test_a_pipe(self):
+        self.assertEqual(call("make", "/dev/stdout", data=GOOD), (0, W, ""))
 
 
 if __name__ == "__main__":

@@ -1,154 +1,269 @@
 #!/usr/bin/env python3
 """Trial files as readable text, and back.
 
-    trialtext.py show < file.trial          prints the trial as text
-    trialtext.py make < text > file.trial   makes a trial file from text
+    trialtext.py make FILE < text     packs a text into a trial file
+    trialtext.py show < file.trial    prints a trial file as text
 
 The text, in simple lines; '#' starts a comment:
 
-    level 1 4             the level a/b, 0 < a < b <= 16383, kept as written
-    k 1                   the tolerance, 1 to 4, at most the number of offers
+    level 1 4             the level a/b, kept as written
+    k 1                   the tolerance
     offer 0042 5 3 4      an offer's printed code, then its difference in cents
-    offer 7 2 -1 1        for each pair; 1 to 16 offers, 1 to 9 pairs
+    offer 7 2 -1 1        for each pair
+
+or, for a file whose words do not stand like that, word by word:
+
+    word 15 8             a word's kind and the value of its other 28 bits
+
+What does not fit the words' bits is answered with its line. Whether the file is
+a trial is not judged here: the report program says what it is refused for. A line
+ends in LF or CR LF, and a byte order mark may stand first. FILE is written whole
+or not at all.
 """
 
+import codecs
+import os
 import re
+import shutil
 import struct
 import sys
+import unicodedata
 
-MEANING = {
-    1: "the file is empty, not a multiple of 4 bytes, or above 652 bytes",
-    2: "a word is missing, or of another kind than its place needs",
-    3: "level: a or b is zero, or a is not below b",
-    4: "shape: a count or k outside its range, k above the offers, or bits 27-24 not zero",
-    5: "an offer's printed digits are outside 1 to 7, or its number has more digits than that",
-    6: "an offer's number is equal to an earlier offer's",
-    7: "a difference is outside -134217727 to 134217727",
-    8: "the end count is wrong, or words stand after the end",
-}
+LEVEL, SHAPE, OFFER, DIFFERENCE, END = 1, 2, 3, 4, 15  # kinds of word: bits 31 to 28
+MOST_BYTES = 2 ** 20  # of an input; no trial comes near
 
 
-class Refused(Exception):
-    """A bad file: its refusal number."""
+class Bad(Exception):
+    """What is wrong with the input, in one line."""
 
 
-class BadText(Exception):
+class BadText(Bad):
     """A bad text: line number and message."""
 
-
-def require(condition, number):
-    if not condition:
-        raise Refused(number)
+    def __str__(self):
+        return "line {}: {}".format(*self.args)
 
 
-def show(data):
-    """The text of a trial file."""
-    require(data and len(data) % 4 == 0 and len(data) <= 652, 1)
-    words = list(struct.unpack(f"<{len(data) // 4}I", data))
-    place = 0
+# ---- lines
 
-    def take(kind):
-        nonlocal place
-        require(place < len(words) and words[place] >> 28 == kind, 2)
-        place += 1
-        return words[place - 1] % 2 ** 28
+def hidden(character):
+    """Whether an editor would not show a character: a control character or a separator."""
+    return character != "\t" and not character.isprintable()
 
-    a, b = divmod(take(1), 2 ** 14)
-    require(0 < a < b, 3)
-    zero, k, offers, pairs = take(2).to_bytes(4, "big")
-    require(zero == 0 and 1 <= k <= min(4, offers) and offers <= 16 and 1 <= pairs <= 9, 4)
-    codes = []
-    for _ in range(offers):
-        digits, number = divmod(take(3), 2 ** 24)
-        require(1 <= digits <= 7 and number < 10 ** digits, 5)
-        require(number not in map(int, codes), 6)
-        codes.append(f"{number:0{digits}}")
-    lines = [f"# offers: {offers}, pairs: {pairs}", f"level {a} {b}", f"k {k}"]
-    for code in codes:
-        cents = []
-        for _ in range(pairs):
-            cents.append((take(4) + 2 ** 27) % 2 ** 28 - 2 ** 27)
-            require(cents[-1] != -2 ** 27, 7)
-        lines.append(" ".join(map(str, ["offer", code] + cents)))
-    before = place
-    require(take(15) == before and place == len(words), 8)
-    return "".join(line + "\n" for line in lines)
 
+def named(character):
+    """A character in plain words."""
+    other = "control character" if unicodedata.category(character) == "Cc" else "no letter"
+    return f"U+{ord(character):04X} ({unicodedata.name(character, other).lower()})"
+
+
+def line_text(at, raw):
+    """A line's bytes as text that shows all that it holds."""
+    try:
+        line = raw.decode("utf-8")
+    except UnicodeDecodeError as error:
+        raise BadText(at, f"byte {raw[error.start]} is no UTF-8 text") from None
+    for character in filter(hidden, line):
+        raise BadText(at, f"an editor would not show the character {named(character)}")
+    return line
+
+
+def lines_of(text):
+    """Each line of a text, split at spaces and tabs, without its comment."""
+    text = text.removeprefix(codecs.BOM_UTF8).replace(b"\r\n", b"\n")
+    return [line_text(at, raw).partition("#")[0].split()
+            for at, raw in enumerate(text.rstrip(b"\n").split(b"\n"), 1)]
+
+
+# ---- packing
 
 def whole(at, text, low, high, what):
-    """The whole number that the text writes, between low and high."""
+    """The whole number that the text writes, if it fits its bits."""
     if not re.fullmatch("[+-]?[0-9]{1,20}", text) or not low <= int(text) <= high:
-        raise BadText(at, f"{what} must be a whole number from {low} to {high}, not '{text}'")
+        raise BadText(at, f"{what} must be a whole number from {low} to {high}, not {text[:40]!a}")
     return int(text)
 
 
-def parse_offer(at, fields, offers):
-    """An offer line's code and differences, checked against the offers above it."""
-    if not fields or not re.fullmatch("[0-9]{1,7}", fields[0]):
-        raise BadText(at, "an offer needs a code of 1 to 7 digits")
-    for line, code, cents in offers:
-        if int(code) == int(fields[0]):
-            raise BadText(at, f"code {fields[0]} has the same number as {code} in line {line}")
-        if len(cents) != len(fields) - 1:
-            raise BadText(at, f"{len(fields) - 1} differences, where line {line} has {len(cents)}")
-    if not 1 <= len(fields) - 1 <= 9:
-        raise BadText(at, f"an offer needs 1 to 9 differences, not {len(fields) - 1}")
-    if len(offers) == 16:
-        raise BadText(at, "more than 16 offers")
-    limit = 134_217_727
-    return at, fields[0], [whole(at, f, -limit, limit, "a difference") for f in fields[1:]]
+def unsigned(at, fields, name, *bits):
+    """The numbers of a line, which fit so many bits each."""
+    if len(fields) != len(bits):
+        raise BadText(at, f"'{name}' needs {' and '.join(['a number'] * len(bits))}")
+    return [whole(at, field, 0, 2 ** n - 1, f"a number of '{name}'")
+            for field, n in zip(fields, bits)]
 
 
-def parse(text):
-    """Level, k and offers of a text; a bad one names its line."""
-    level, k, offers, at = None, None, [], 0
-    for at, line in enumerate(text.rstrip("\n").split("\n"), 1):
-        word, *fields = line.split("#")[0].split() or [""]
-        if word == "level" and level is None and len(fields) == 2:
-            b = whole(at, fields[1], 2, 16_383, "b of level a b")
-            level = whole(at, fields[0], 1, b - 1, "a of level a b"), b
-        elif word == "k" and k is None and len(fields) == 1:
-            k = at, whole(at, fields[0], 1, 4, "k")
-        elif word == "offer":
-            offers.append(parse_offer(at, fields, offers))
-        elif word in ("level", "k"):
-            numbers = "two numbers" if word == "level" else "one number"
-            raise BadText(at, f"'{word}' must stand once, with {numbers}")
-        elif word:
-            raise BadText(at, f"'{word}' is none of level, k, offer")
-    for missing, found in (("level", level), ("k", k), ("offer", offers)):
-        if not found:
-            raise BadText(at, f"the text ends with no '{missing}' line")
-    if k[1] > len(offers):
-        raise BadText(k[0], f"k is {k[1]}, above the number of offers, {len(offers)}")
-    return level, k[1], offers
+def word(kind, value):
+    return kind << 28 | value
+
+
+def offer_words(at, fields):
+    """An offer line as words: the offer, then its differences."""
+    code = fields[0] if fields else ""
+    if not re.fullmatch("[0-9]{1,15}", code) or int(code) >= 2 ** 24:
+        raise BadText(at, f"an offer needs a code of 1 to 15 digits below {2 ** 24}, not {code[:40]!a}")
+    cents = [whole(at, field, -2 ** 27, 2 ** 27 - 1, "a difference") for field in fields[1:]]
+    return [word(OFFER, len(code) << 24 | int(code)),
+            *(word(DIFFERENCE, cent % 2 ** 28) for cent in cents)]
+
+
+LINES = {
+    "level": lambda at, fields: unsigned(at, fields, "level", 14, 14),
+    "k": lambda at, fields: unsigned(at, fields, "k", 8),
+    "offer": offer_words,
+    "word": lambda at, fields: word(*unsigned(at, fields, "word", 4, 28)),
+}
+
+
+def only(found, name, last):
+    """What the one line of that name holds."""
+    if not found[name]:
+        raise BadText(last, f"the text ends with no '{name}' line")
+    if len(found[name]) > 1:
+        raise BadText(found[name][1][0], f"a second '{name}' line")
+    return found[name][0][1]
+
+
+def pairs_of(offers):
+    """How many differences each offer has: the file has one number for all."""
+    at, words = offers[0] if offers else (1, [0])
+    for other, listed in offers:
+        if len(listed) != len(words):
+            raise BadText(other, f"{len(listed) - 1} differences, "
+                                 f"where line {at} has {len(words) - 1}")
+    if len(words) > 256:
+        raise BadText(at, "more than 255 differences")
+    return len(words) - 1
+
+
+def trial_words(found, last):
+    """The words of a trial."""
+    (a, b), (k,), offers = only(found, "level", last), only(found, "k", last), found["offer"]
+    pairs = pairs_of(offers)
+    if len(offers) > 255:
+        raise BadText(offers[255][0], "more than 255 offers")
+    words = [word(LEVEL, a << 14 | b), word(SHAPE, k << 16 | len(offers) << 8 | pairs)]
+    words += [listed[0] for _, listed in offers]
+    words += [difference for _, listed in offers for difference in listed[1:]]
+    return words + [word(END, len(words))]
+
+
+def plain_words(found):
+    """The words that a text lists."""
+    others = [at for name in ("level", "k", "offer") for at, _ in found[name]]
+    if others:
+        raise BadText(min(others), "a text with 'word' lines has no others")
+    return [listed for _, listed in found["word"]]
+
+
+def pack(lines):
+    """The words of a text's lines."""
+    found = {name: [] for name in LINES}
+    for at, line in enumerate(lines, 1):
+        name, *fields = line or [""]
+        if name in LINES:
+            found[name].append((at, LINES[name](at, fields)))
+        elif name:
+            raise BadText(at, f"{name[:40]!a} is none of {', '.join(LINES)}")
+    return plain_words(found) if found["word"] else trial_words(found, len(lines))
 
 
 def make(text):
     """The trial file of a text."""
-    (a, b), k, offers = parse(text)
-    words = [1 << 28 | a << 14 | b, 2 << 28 | k << 16 | len(offers) << 8 | len(offers[0][2])]
-    words += [3 << 28 | len(code) << 24 | int(code) for _, code, _ in offers]
-    words += [4 << 28 | cents % 2 ** 28 for _, _, listed in offers for cents in listed]
-    words.append(15 << 28 | len(words))
+    words = pack(lines_of(text))
     return struct.pack(f"<{len(words)}I", *words)
 
 
+# ---- showing
+
+def trial_lines(words):
+    """Words as the lines of a trial, whatever they are."""
+    level, shape = (words + [0])[:2]
+    offers, pairs = shape >> 8 & 255, shape & 255
+    yield f"# offers: {offers}, pairs: {pairs}"
+    yield f"level {level >> 14 & 2 ** 14 - 1} {level & 2 ** 14 - 1}"
+    yield f"k {shape >> 16 & 255}"
+    for i, offer in enumerate(words[2:2 + offers]):
+        code = str(offer & 2 ** 24 - 1).zfill(offer >> 24 & 15)
+        first = 2 + offers + i * pairs
+        cents = [(w + 2 ** 27) % 2 ** 28 - 2 ** 27 for w in words[first:first + pairs]]
+        yield " ".join(map(str, ["offer", code, *cents]))
+
+
+def makes(text, data):
+    """Whether a text makes this file."""
+    try:
+        return make(text.encode()) == data
+    except BadText:
+        return False
+
+
+def show(data):
+    """The text of a file: as a trial if that makes the file again, and else word by word."""
+    if not data or len(data) % 4 != 0:
+        raise Bad(f"{len(data)} bytes are no words of 4 bytes each")
+    words = list(struct.unpack(f"<{len(data) // 4}I", data))
+    text = "".join(line + "\n" for line in trial_lines(words))
+    if makes(text, data):
+        return text
+    return "".join(f"word {w >> 28} {w % 2 ** 28}\n" for w in words)
+
+
+# ---- files
+
+def taken():
+    """Standard input, whole."""
+    try:
+        with open(0, "rb", closefd=False) as given:
+            data = given.read(MOST_BYTES + 1)
+    except OSError as error:
+        raise Bad(f"standard input: {error.strerror}") from None
+    if len(data) > MOST_BYTES:
+        raise Bad(f"the input is longer than {MOST_BYTES} bytes")
+    return data
+
+
+def put_out(text):
+    """Text on standard output. It is opened here, so that nothing is left to write at exit."""
+    with open(1, "w", encoding="ascii", closefd=False) as out:
+        out.write(text)
+
+
+def save(path, data):
+    """Writes a file whole or not at all: beside its place first, then into it by a renaming."""
+    if os.path.exists(path) and not os.path.isfile(path):  # a device or a pipe
+        with open(path, "wb") as out:
+            out.write(data)
+        return
+    place = os.path.realpath(path)
+    other = os.path.join(os.path.dirname(place), f".trialtext-{os.getpid()}")
+    try:
+        with open(other, "xb") as out:
+            out.write(data)
+        if os.path.exists(place):
+            open(place, "ab").close()  # one that may not be written stays
+            shutil.copymode(place, other)
+        os.replace(other, place)
+    except BaseException:
+        if os.path.exists(other):
+            os.unlink(other)
+        raise
+
+
 def main(arguments):
-    if arguments not in (["show"], ["make"]):
+    if arguments != ["show"] and not (arguments[:1] == ["make"] and len(arguments) == 2):
         print(__doc__.strip(), file=sys.stderr)
         return 2
-    data = sys.stdin.buffer.read()
+    out = "standard output" if arguments == ["show"] else arguments[1]
     try:
         if arguments == ["show"]:
-            sys.stdout.write(show(data))
+            put_out(show(taken()))
         else:
-            sys.stdout.buffer.write(make(data.decode("utf-8-sig", "replace")))
-    except Refused as refused:
-        print(f"refused {refused}: {MEANING[refused.args[0]]}", file=sys.stderr)
+            save(out, make(taken()))
+    except Bad as bad:
+        print(bad, file=sys.stderr)
         return 1
-    except BadText as bad:
-        print("line {}: {}".format(*bad.args), file=sys.stderr)
+    except OSError as error:
+        print(f"{out}: {error.strerror}", file=sys.stderr)
         return 1
     return 0
 
