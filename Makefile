@@ -1,4 +1,4 @@
-# make run      proves and builds the report program, and prints the report of samples/w.trial
+# make run      proves and builds the report program, and prints the report of samples/w.trial; tells each crate as it is proved, on standard error
 # make test     the one test command: `rt ci`, which proves every crate of crates.txt from nothing, tries the must-fail edits
 #               and runs the programs; then, on what it has proved, the Python tests: the reference implementation, the tools,
 #               the C calls and the files of the test program
@@ -6,9 +6,10 @@
 # make host     builds the sample host in C: `target/host samples/w.trial` then prints the verdicts of a trial file
 # make bench    compares the library with the plain C of tests/baseline, gcc -O3 (docs/BENCHMARKS.md); `rt staticlib` compiles at -O3 too
 .PHONY: run test vectors host bench
+SHELL = bash
 run:
 	@mkdir -p target
-	@rt check report > target/run.log 2>&1 || { cat target/run.log; exit 1; }
+	@set -o pipefail; rt check report 2>&1 | tee target/run.log | sed -nu 's/^rt: \([^ ]* proved ([0-9]* s)\)$$/\1/p' >&2 || { cat target/run.log >&2; exit 1; }
 	@target/bin/report < samples/w.trial
 
 test:
