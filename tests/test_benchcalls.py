@@ -1,0 +1,135 @@
+"""The calls that only the benchmark makes: every answer and every lent place, against the reference.
+
+`rt` proves the crate and builds its static library, gcc makes a shared one of it; where
+either is missing the tests fail. A refused call answers its number and leaves all as it was.
+"""
+
+import subprocess
+import tempfile
+import unittest
+from ctypes import CDLL, c_double, c_int32, c_size_t, c_uint8, c_uint32
+from pathlib import Path
+
+from cases import cases_of
+from expected import MARK
+from reference import ccall, report, table, trialfile
+from reference.refusals import Refused
+
+ROOT = Path(__file__).resolve().parent.parent
+ARCHIVE = ROOT / "target" / "staticlib" / "libbenchcalls.a"
+GUARD = 3  # places beyond each lent buffer that have to stay as they are
+
+_folder = tempfile.TemporaryDirectory()
+library = None
+
+
+def setUpModule():
+    global library
+    shared = Path(_folder.name) / "benchcalls.so"
+    for words in (("rt", "staticlib", "benchcalls"),
+                  ("gcc", "-shared", "-Wl,--whole-archive", ARCHIVE, "-Wl,--no-whole-archive",
+                   "-o", shared)):
+        done = subprocess.run(words, cwd=ROOT, capture_output=True, text=True)
+        if done.returncode != 0:
+            raise AssertionError(f"{words[0]} failed:\n{done.stdout[-4000:]}\n{done.stderr[-4000:]}")
+    library = CDLL(str(shared))
+
+
+def tearDownModule():
+    _folder.cleanup()
+
+
+def marked(kind, places: int):
+    """So many places and a guard, marked."""
+    return (kind * (places + GUARD))(*[MARK] * (places + GUARD))
+
+
+def sizes(*numbers):
+    return [c_size_t(number) for number in numbers]
+
+
+def guarded(values):
+    """What a lent buffer with these values in its places holds, the guard included."""
+    return list(values) + [MARK] * GUARD
+
+
+def number_of(answer) -> int:
+    return answer.number if isinstance(answer, Refused) else 0
+
+
+class Calls(unittest.TestCase):
+    def check(self, name, found: int, answer, places):
+        """The number is the answer's, and each lent buffer has its part, or holds what it held."""
+        self.assertEqual(found, number_of(answer), name)
+        for lent, values in places:
+            kept = [MARK] * len(lent)
+            self.assertEqual(list(lent), kept if found else guarded(values(answer)), name)
+
+    def test_reading(self):
+        refused = set()
+        for case in cases_of("file"):
+            figures, codes, digits = marked(c_size_t, 5), marked(c_uint32, 16), marked(c_uint8, 16)
+            differences = marked(c_int32, 144)
+            found = library.bench_read(case.data, *sizes(len(case.data)), figures, codes, digits,
+                                       differences)
+            self.check(case.name, found, trialfile.read(case.data), (
+                (figures, lambda t: (t.a, t.b, t.k, t.offers, t.pairs)), (codes, lambda t: t.codes),
+                (digits, lambda t: t.digits), (differences, lambda t: t.differences)))
+            refused.add(found)
+        self.assertEqual(refused, set(range(9)))
+
+    def test_writing(self):
+        refused = set()
+        for case in cases_of("record"):
+            t, out, written = case.trial, marked(c_uint8, case.file_room), marked(c_size_t, 1)
+            found = library.bench_write(
+                (c_size_t * 5)(t.a, t.b, t.k, t.offers, t.pairs), (c_uint32 * 16)(*t.codes),
+                (c_uint8 * 16)(*t.digits), (c_int32 * 144)(*t.differences), out,
+                *sizes(case.file_room), written)
+            buffer = bytearray([MARK]) * case.file_room
+            answer = trialfile.write(t, buffer)
+            self.check(case.name, found, answer, ((out, lambda _: buffer),
+                                                  (written, lambda file: [len(file)])))
+            refused.add(found)
+        self.assertEqual(refused, {0, 3, 4, 5, 6, 7, 12})
+
+    def test_reports(self):
+        for case in cases_of("file"):
+            text, written = marked(c_uint8, case.report_room), marked(c_size_t, 1)
+            found = library.bench_report(case.data, *sizes(len(case.data)), text,
+                                         *sizes(case.report_room), written)
+            buffer = bytearray([MARK]) * case.report_room
+            answer = report.lent_report(case.data, buffer)
+            self.check(case.name, found, answer, ((text, lambda _: buffer),
+                                                  (written, lambda told: [len(told)])))
+
+    def test_tables(self):
+        refused = set()
+        for case in cases_of("table"):
+            values = (c_double * max(len(case.values), 1))(*case.values)
+            work, expected_work = marked(c_double, case.work_room), [float(MARK)] * case.work_room
+            steps, criticals = marked(c_size_t, 1), marked(c_double, 32)
+            counts, verdicts = marked(c_size_t, 32), marked(c_size_t, 32)
+            found = library.bench_table(
+                values, *sizes(len(case.values), case.rows, case.columns, case.k, case.a, case.b,
+                               case.observed), work, *sizes(case.work_room), steps, criticals,
+                counts, verdicts)
+            answer = table.full_run(case.values, case.rows, case.columns, case.k, case.a, case.b,
+                                    case.observed, expected_work)
+            self.check(case.name, found, answer, (
+                (work, lambda _: expected_work), (steps, lambda run: [len(run.records)]),
+                (criticals, lambda run: padded([r.critical_value for r in run.records])),
+                (counts, lambda run: padded(run.counts)),
+                (verdicts, lambda run: padded(ccall.steps(run)))))
+            self.assertNotIn("-0.0", map(str, (*criticals, *work)), case.name)
+            refused.add(found)
+        self.assertEqual(refused, {0, 3, 4, 9, 10, 11, 12})
+
+
+def padded(values) -> list:
+    """32 places, those beyond the values zero."""
+    return list(values) + [0] * (32 - len(values))
+
+
+if __name__ == "__main__":
+    unittest.main()
