@@ -100,7 +100,8 @@ def offer_words(at, fields):
     """An offer line as words: the offer, then its differences."""
     code = fields[0] if fields else ""
     if not re.fullmatch("[0-9]{1,15}", code) or int(code) >= 2 ** 24:
-        raise BadText(at, f"an offer needs a code of 1 to 15 digits below {2 ** 24}, not {code[:40]!a}")
+        raise BadText(at, "an offer needs a code of 1 to 15 digits, "
+                          f"below {2 ** 24}, not {code[:40]!a}")
     cents = [whole(at, field, -2 ** 27, 2 ** 27 - 1, "a difference") for field in fields[1:]]
     return [word(OFFER, len(code) << 24 | int(code)),
             *(word(DIFFERENCE, cent % 2 ** 28) for cent in cents)]
@@ -236,16 +237,16 @@ def save(path, data):
         return
     place = os.path.realpath(path)
     other = os.path.join(os.path.dirname(place), f".trialtext-{os.getpid()}")
+    out = open(other, "xb")
     try:
-        with open(other, "xb") as out:
+        with out:
             out.write(data)
         if os.path.exists(place):
             open(place, "ab").close()  # one that may not be written stays
             shutil.copymode(place, other)
         os.replace(other, place)
     except BaseException:
-        if os.path.exists(other):
-            os.unlink(other)
+        os.unlink(other)
         raise
 
 
