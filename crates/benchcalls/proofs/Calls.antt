@@ -1,10 +1,11 @@
 -- What each call leaves, from what it asks for: the number, a place that is left alone where the call is refused, and one that is given a part where it is accepted.
 --   read-number, read-kept, read-given           of `bench_read`
+--   answer-moved, buffer-moved                   what writing answers and leaves, of an equal trial
 --   write-number, write-kept, write-given        of `bench_write`
 --   render-number, render-kept, render-given     of `bench_report`
 --   run-number, run-kept, run-given              of `bench_table`
 use Prim.Native.Nat.{ℕ}
-use mathlib.Core.Path.{_≡_, refl}
+use mathlib.Core.Path.{_≡_, refl, ap, _∙_}
 use mathlib.Core.List.{List}
 use lib.ListN.{length}
 use lib.Ieee.{Float}
@@ -17,7 +18,7 @@ use Rattle.stepdown.specs.Answers.{fullAnswer}
 use Rattle.trial.specs.declared.Trial.{Trial}
 use Rattle.trialfile.specs.Words.{wordsOf}
 use Rattle.trialfile.specs.Files.{trialOf, blank, fileChecks, fileRefusal, readingOf}
-use Rattle.trialfile.specs.Writings.{fileLength, writeChecks, writeRefusal, writingOf}
+use Rattle.trialfile.specs.Writings.{fileLength, writeChecks, writeRefusal, writingOf, afterWriting}
 use Rattle.trialfile.specs.declared.Reading.{Reading}
 use Rattle.trialfile.specs.declared.Writing.{Writing}
 use Rattle.rendering.specs.Reports.{reportOf}
@@ -49,6 +50,14 @@ module _ (bytes : List ℕ) (x : Reading) (e : x ≡ readingOf bytes) where
     read-given = handed-out (λ (y : Reading). y .refusal) (fileChecks bytes) read-all read-none refl x e (λ y. part (y .trial)) old
 
 -- ---- writing
+
+-- the trial that is written is the one that the arrays hold
+module _ (u t : Trial) (q : u ≡ t) where
+  pub answer-moved : (places : ℕ) (x : Writing) → x ≡ writingOf u places → x ≡ writingOf t places
+  answer-moved places x e = e ∙ ap (λ (v : Trial). writingOf v places) q
+
+  pub buffer-moved : (old out : List ℕ) → out ≡ afterWriting u old → out ≡ afterWriting t old
+  buffer-moved old out e = e ∙ ap (λ (v : Trial). afterWriting v old) q
 
 module _ (t : Trial) (places : ℕ) (x : Writing) (e : x ≡ writingOf t places) where
   abbrev write-all : Writing

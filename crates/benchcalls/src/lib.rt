@@ -13,6 +13,28 @@ ghost use Rattle.trialfile.specs.Writings.{writeRefusal, afterWriting};
 ghost use Rattle.rendering.specs.Renderings.{renderRefusal, afterRendering};
 ghost use Rattle.benchcalls.specs.Calls.{figuresOf, codesOf, digitsOf, differencesOf, trialFrom, criticalOfRecord, stepOfDecision, stepsIn, criticalsIn, countsIn, verdictsOf, fromFile, lengthWritten, lengthRendered, fromTable};
 
+// The parts of a trial into arrays, the first one a, b, k, offers and pairs.
+fn take_apart(
+    t: Trial,
+    figures: &mut [usize; 5],
+    codes: &mut [u32; 16],
+    digits: &mut [u8; 16],
+    differences: &mut [i32; 144],
+)
+    ensures { λ _. ⌜ now (figures .exit) ≡ figuresOf t ⌝ }
+    ensures { λ _. ⌜ now (codes .exit) ≡ codesOf t ⌝ }
+    ensures { λ _. ⌜ now (digits .exit) ≡ digitsOf t ⌝ }
+    ensures { λ _. ⌜ now (differences .exit) ≡ differencesOf t ⌝ }
+{
+    *figures = [t.a, t.b, t.k, t.offers, t.pairs];
+    let c = t.codes;
+    *codes = c;
+    let g = t.digits;
+    *digits = g;
+    let d = t.differences;
+    *differences = d;
+}
+
 // Reads a file. The arrays then hold its trial, the first one a, b, k, offers and pairs.
 #[no_mangle]
 pub extern "C" fn bench_read(
@@ -31,15 +53,30 @@ pub extern "C" fn bench_read(
     let reading = trialfile::read(file);
     if reading.refusal == 0 {
         let t = reading.trial;
-        *figures = [t.a, t.b, t.k, t.offers, t.pairs];
-        let c = t.codes;
-        *codes = c;
-        let g = t.digits;
-        *digits = g;
-        let d = t.differences;
-        *differences = d;
+        take_apart(t, figures, codes, digits, differences);
     }
     reading.refusal
+}
+
+// The trial of these figures and arrays.
+fn put_together(
+    figures: &[usize; 5],
+    codes: &[u32; 16],
+    digits: &[u8; 16],
+    differences: &[i32; 144],
+) -> Trial
+    ensures { λ r. ⌜ r ≡ trialFrom (now (figures .entry)) (now (codes .entry)) (now (digits .entry)) (now (differences .entry)) ⌝ }
+{
+    Trial {
+        a: figures[0],
+        b: figures[1],
+        k: figures[2],
+        offers: figures[3],
+        pairs: figures[4],
+        codes: *codes,
+        digits: *digits,
+        differences: *differences,
+    }
 }
 
 // Writes the trial of these figures and arrays into the buffer's first bytes, and the length of the file into its place.
@@ -56,16 +93,7 @@ pub extern "C" fn bench_write(
     ensures { λ r. ⌜ now (out .exit) ≡ afterWriting (trialFrom (now (figures .entry)) (now (codes .entry)) (now (digits .entry)) (now (differences .entry))) (now (out .entry)) ⌝ }
     ensures { λ r. ⌜ now (written .exit) ≡ lengthWritten (trialFrom (now (figures .entry)) (now (codes .entry)) (now (digits .entry)) (now (differences .entry))) (length (now (out .entry))) (now (written .entry)) ⌝ }
 {
-    let t = Trial {
-        a: figures[0],
-        b: figures[1],
-        k: figures[2],
-        offers: figures[3],
-        pairs: figures[4],
-        codes: *codes,
-        digits: *digits,
-        differences: *differences,
-    };
+    let t = put_together(figures, codes, digits, differences);
     let writing = trialfile::write(t, out);
     if writing.refusal == 0 {
         *written = writing.length;
