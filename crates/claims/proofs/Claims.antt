@@ -39,6 +39,7 @@ use Rattle.control.proofs.Answered.{tables-answered, trials-answered}
 use Rattle.rendering.specs.Reports.{cents, recordAt, trialText, refusedText, reportOf}
 use Rattle.rendering.specs.Renderings.{longestReport, renderingOf, afterRendering}
 use Rattle.stepdown.proofs.StepByStep as steps
+use Rattle.trialrun.proofs.Runs as trialruns
 use Rattle.control.specs.Statements.{runsThatReject, SameOn, Keeps, ExchangedOn}
 use Rattle.rendering.proofs.Rendered as rendered
 use Rattle.rendering.proofs.PrintableFiles as printing
@@ -112,6 +113,10 @@ report-accepted bytes h = answered (fileChecks bytes) _ refusedText .gives h
 
 pub printed-cents : (t : Trial) → trialRefusal t ≡ 0 → (i : ℕ) → i < length ((trialRun t) .records) → let c = recordAt (acceptedRun (trialRun t)) i .critical in ofInt binary64 (cents c) ≡ c
 printed-cents = printing.printed-cents
+
+-- the M and e of a trial's full run, which the report prints: the rows of its table, and floor(M × a/b)
+pub run-sizes : (t : Trial) → let r = acceptedRun (trialRun t) in (r .rows ≡ rowTotal t) × (r .e ≡ allowance (rowTotal t) (t .a) (t .b))
+run-sizes = trialruns.run-sizes
 
 -- the starred examples hold, all of them
 pub starred : map (λ x. x .asked) examples ≡ map (λ x. x .told) examples

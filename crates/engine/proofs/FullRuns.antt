@@ -34,7 +34,7 @@ use Rattle.critical.specs.Internal.{CheckedTable}
 use Rattle.engine.specs.Internal.{CanStep, Traced, traceOf, verdictOver, verdictIn, finishedRun}
 use Rattle.engine.specs.declared.tracing.Trace.{Trace}
 
-module _ (t : Trace) (table : List Float) (rows columns observed : ℕ) where
+module _ (t : Trace) (table : List Float) (rows columns e observed : ℕ) where
   verdicts : ℕ → List Decision
   verdicts j = map decision (tabulate j (λ i. verdictIn t i))
 
@@ -42,18 +42,18 @@ module _ (t : Trace) (table : List Float) (rows columns observed : ℕ) where
   counts j = tabulate j (λ i. atLeast (rowsOf rows columns table) (getD table (observed * columns + i) nan) i)
 
   pub partialRun : ℕ → FullRun
-  partialRun j = record { refusal = 0; steps = t .steps; records = t .records; decisions = padded 32 (decision (Kept plusZero)) (verdicts j); counts = padded 32 0 (counts j) }
+  partialRun j = record { refusal = 0; rows = rows; e = e; steps = t .steps; records = t .records; decisions = padded 32 (decision (Kept plusZero)) (verdicts j); counts = padded 32 0 (counts j) }
 
-  pub partial-start : (r : FullRun) → r ≡ refusedRun 0 → record { refusal = r .refusal; steps = t .steps; records = t .records; decisions = r .decisions; counts = r .counts } ≡ partialRun 0
+  pub partial-start : (r : FullRun) → r ≡ refusedRun 0 → record { refusal = r .refusal; rows = rows; e = e; steps = t .steps; records = t .records; decisions = r .decisions; counts = r .counts } ≡ partialRun 0
   unfolding partialRun verdicts counts tabulate
-  partial-start r e = ap (λ (x : FullRun). record { refusal = x .refusal; steps = t .steps; records = t .records; decisions = x .decisions; counts = x .counts }) e
+  partial-start r q = ap (λ (x : FullRun). record { refusal = x .refusal; rows = rows; e = e; steps = t .steps; records = t .records; decisions = x .decisions; counts = x .counts }) q
 
   pub partial-turn : (j : ℕ) (f : FullRun) (v : Verdict) (n : ℕ) → j < 32 → f ≡ partialRun j → v ≡ verdictIn t j → n ≡ atLeast (rowsOf rows columns table) (getD table (observed * columns + j) nan) j
-      → record { refusal = f .refusal; steps = f .steps; records = f .records; decisions = set (f .decisions) j (record { verdict = v }); counts = set (f .counts) j n } ≡ partialRun (j + 1)
+      → record { refusal = f .refusal; rows = f .rows; e = f .e; steps = f .steps; records = f .records; decisions = set (f .decisions) j (record { verdict = v }); counts = set (f .counts) j n } ≡ partialRun (j + 1)
   unfolding partialRun verdicts counts
-  partial-turn j f v n h e p q =
-      ap (λ (x : FullRun). record { refusal = x .refusal; steps = x .steps; records = x .records; decisions = set (x .decisions) j (record { verdict = v }); counts = set (x .counts) j n }) e
-      ∙ (λ i. record { refusal = 0; steps = t .steps; records = t .records; decisions = js i; counts = cs i })
+  partial-turn j f v n h w p q =
+      ap (λ (x : FullRun). record { refusal = x .refusal; rows = x .rows; e = x .e; steps = x .steps; records = x .records; decisions = set (x .decisions) j (record { verdict = v }); counts = set (x .counts) j n }) w
+      ∙ (λ i. record { refusal = 0; rows = rows; e = e; steps = t .steps; records = t .records; decisions = js i; counts = cs i })
     where
       js : set (padded 32 (decision (Kept plusZero)) (map decision (tabulate j (λ i. verdictIn t i)))) j (decision v) ≡ padded 32 (decision (Kept plusZero)) (map decision (tabulate (j + 1) (λ i. verdictIn t i)))
       js = set-padded 32 (decision (Kept plusZero)) (map decision (tabulate j (λ i. verdictIn t i))) j (decision v) (length-map (tabulate j (λ i. verdictIn t i)) decision ∙ tabulate-length j (λ i. verdictIn t i)) h
@@ -63,9 +63,9 @@ module _ (t : Trace) (table : List Float) (rows columns observed : ℕ) where
       cs = set-padded 32 0 (tabulate j (λ i. atLeast (rowsOf rows columns table) (getD table (observed * columns + i) nan) i)) j n (tabulate-length j (λ i. atLeast (rowsOf rows columns table) (getD table (observed * columns + i) nan) i)) h
           ∙ ap (padded 32 0) (ap (λ (m : ℕ). tabulate j (λ i. atLeast (rowsOf rows columns table) (getD table (observed * columns + i) nan) i) ++ (m ∷ [])) q ∙ sym (tabulate-more j (λ i. atLeast (rowsOf rows columns table) (getD table (observed * columns + i) nan) i)))
 
-  pub partial-end : (j : ℕ) (f : FullRun) → j ≤ columns → columns ≤ j → f ≡ partialRun j → f ≡ finishedRun t table rows columns observed
+  pub partial-end : (j : ℕ) (f : FullRun) → j ≤ columns → columns ≤ j → f ≡ partialRun j → f ≡ finishedRun t table rows columns e observed
   unfolding partialRun verdicts counts finishedRun
-  partial-end j f a b e = let q : j ≡ columns = omega arith in e ∙ ap partialRun q
+  partial-end j f a b w = let q : j ≡ columns = omega arith in w ∙ ap partialRun q
 
 -- ---- the trace of steps
 
@@ -109,10 +109,12 @@ module _ (table : List Float) (rows columns k e observed live : ℕ) where
     left = omega (arith, first-left rows columns k e observed live, first-open rows columns k e observed live on, ready .k-some);
   }
 
-  finished-is : observed < rows → finishedRun (traceOf (stepsOf (rowsOf rows columns table) start)) table rows columns observed ≡ acceptedRun (fullRun (rowsOf rows columns table) start)
+  finished-is : observed < rows → finishedRun (traceOf (stepsOf (rowsOf rows columns table) start)) table rows columns e observed ≡ acceptedRun (fullRun (rowsOf rows columns table) start)
   unfolding finishedRun acceptedRun fullRun traceOf
   finished-is h = λ i. record {
     refusal = 0;
+    rows = rows;
+    e = e;
     steps = sym (length-map ss (λ s. s .logged)) i;
     records = padded 32 noRecord (map (λ s. s .logged) ss);
     decisions = padded 32 (decision (Kept plusZero)) (map decision (vs i));
@@ -140,8 +142,8 @@ module _ (table : List Float) (rows columns k e observed live : ℕ) where
     pub counted-traced : (t : Trace) → t ≡ traceOf (stepsOf (rowsOf rows columns table) counted) → Traced t
     counted-traced t q = subst (λ (x : Trace). Traced x) (sym q) (trace-typed (stepsOf (rowsOf rows columns table) counted) (steps-few (rowsOf rows columns table) counted))
 
-    pub full-is : (t : Trace) (f : FullRun) → observed < rows → t ≡ traceOf (stepsOf (rowsOf rows columns table) counted) → f ≡ finishedRun t table rows columns observed → f ≡ acceptedRun (fullRun (rowsOf rows columns table) start)
-    full-is t f h q p = p ∙ ap (λ (x : Trace). finishedRun x table rows columns observed) (q ∙ ap (λ (s : State). traceOf (stepsOf (rowsOf rows columns table) s)) counted-is) ∙ finished-is h
+    pub full-is : (t : Trace) (f : FullRun) → observed < rows → t ≡ traceOf (stepsOf (rowsOf rows columns table) counted) → f ≡ finishedRun t table rows columns e observed → f ≡ acceptedRun (fullRun (rowsOf rows columns table) start)
+    full-is t f h q p = p ∙ ap (λ (x : Trace). finishedRun x table rows columns e observed) (q ∙ ap (λ (s : State). traceOf (stepsOf (rowsOf rows columns table) s)) counted-is) ∙ finished-is h
 
 -- the work buffer beyond the first rows is as it was, and those are cleared
 pub work-cleared : (rows : ℕ) (work w w′ : List Float) → drop rows w ≡ drop rows work → w′ ≡ cleared rows w → w′ ≡ cleared rows work

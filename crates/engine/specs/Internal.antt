@@ -65,11 +65,13 @@ verdictOver last (r ∷ rs) (s ∷ ss) j = cond (inSet s j) (Rejected (r .step) 
 unfoldable pub verdictIn : Trace → ℕ → Verdict
 verdictIn t j = verdictOver plusZero (take (t .steps) (t .records)) (take (t .steps) (t .sets)) j
 
-unfoldable pub finishedRun : Trace → List Float → ℕ → ℕ → ℕ → FullRun
+unfoldable pub finishedRun : Trace → List Float → ℕ → ℕ → ℕ → ℕ → FullRun
 unfolding verdictIn tabulate atLeast rowsOf
-finishedRun t table rows columns observed =
+finishedRun t table rows columns e observed =
     record {
       refusal = 0;
+      rows = rows;
+      e = e;
       steps = t .steps;
       records = t .records;
       decisions = padded 32 (decision (Kept plusZero)) (map decision (tabulate columns (λ j. verdictIn t j)));

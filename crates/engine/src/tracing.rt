@@ -85,19 +85,22 @@ fn verdict(t: Trace, j: usize) -> Verdict
     Verdict::Kept(last)
 }
 
-// The full run that a trace makes: verdicts and counts of the columns.
+// The full run that a trace makes: M, e, verdicts and counts of the columns.
 fn finish(
     t: Trace,
     table: &[f64],
     rows: usize,
     columns: usize,
     k: usize,
+    e: usize,
     observed: usize,
 ) -> FullRun
     requires { ⌜ CheckedTable (now table) rows columns k × (observed < rows) × Traced t ⌝ }
-    ensures { λ r. ⌜ r ≡ finishedRun t (now (table .entry)) rows columns observed ⌝ }
+    ensures { λ r. ⌜ r ≡ finishedRun t (now (table .entry)) rows columns e observed ⌝ }
 {
     let mut f = runs::refused(0);
+    f.rows = rows;
+    f.e = e;
     f.steps = t.steps;
     let records = t.records;
     f.records = records;
@@ -141,5 +144,5 @@ pub fn full_run(
     };
     let t = all_steps(start, table, work);
     steps::clear(work, rows);
-    finish(t, table, rows, columns, k, observed)
+    finish(t, table, rows, columns, k, e, observed)
 }

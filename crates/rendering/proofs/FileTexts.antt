@@ -27,10 +27,10 @@ module _ (f : FileRun) where
   text-refused h = ap (λ (b : Bool). cond b (trialText (f .trial) (f .run)) (refusedText (f .run .refusal))) (sym (ne-eqb (f .run .refusal) 0 h))
 
   pub text-report : (n : ℕ) → f .run .refusal ≡ 0 → n ≡ rejectedCount (f .trial .offers) (f .run .decisions)
-      → headLine (f .trial) ++ (linesTo (f .run .steps) (stepLineAt (f .run)) ++ (linesTo (f .trial .offers) (offerLineAt (f .trial) (f .run)) ++ line (ascii "end") (decimal n ∷ []))) ≡ textOf f
+      → headLine (f .trial) (f .run) ++ (linesTo (f .run .steps) (stepLineAt (f .run)) ++ (linesTo (f .trial .offers) (offerLineAt (f .trial) (f .run)) ++ line (ascii "end") (decimal n ∷ []))) ≡ textOf f
   unfolding textOf trialText
   text-report n h e =
-      ap (λ (m : ℕ). headLine (f .trial) ++ (linesTo (f .run .steps) (stepLineAt (f .run)) ++ (linesTo (f .trial .offers) (offerLineAt (f .trial) (f .run)) ++ line (ascii "end") (decimal m ∷ [])))) e
+      ap (λ (m : ℕ). headLine (f .trial) (f .run) ++ (linesTo (f .run .steps) (stepLineAt (f .run)) ++ (linesTo (f .trial .offers) (offerLineAt (f .trial) (f .run)) ++ line (ascii "end") (decimal m ∷ [])))) e
       ∙ ap (λ (b : Bool). cond b (trialText (f .trial) (f .run)) (refusedText (f .run .refusal))) (sym (eq-eqb (f .run .refusal) 0 h))
 
 -- what is composed for the answer of a file's full run is the file's report

@@ -13,6 +13,7 @@ use lib.IntN.{ℤ, pos, negsuc}
 use Rattle.runs.specs.declared.Record.{Record}
 use Rattle.runs.specs.declared.Verdict.{Verdict}
 use Rattle.runs.specs.declared.Verdict.the-variants.{Rejected, Kept}
+use Rattle.runs.specs.declared.FullRun.{FullRun}
 use Rattle.verdicts.specs.Verdicts.{rejectedCount}
 use Rattle.trial.specs.declared.Trial.{Trial}
 use Rattle.trialrun.specs.FileRuns.{fileRun}
@@ -63,8 +64,8 @@ number n k = field (decimal n) 20 (decimal-most 20 n) k
 line-most : {ws : List (List ℕ)} {b : ℕ} (w : List ℕ) (a : ℕ) → length w ≤ a → Most ws b → length (line w ws) ≤ a + b
 line-most {ws = ws} w a h k = omega (arith, length-append w (afterFirst ws), k .most)
 
-head-most : (t : Trial) → length (headLine t) ≤ 111
-head-most t = line-most (ascii "trial") 5 (omega arith) (number _ (number _ (number _ (number _ (number _ line-end)))))
+head-most : (t : Trial) (r : FullRun) → length (headLine t r) ≤ 111
+head-most t r = line-most (ascii "trial") 5 (omega arith) (number _ (number _ (number _ (number _ (number _ line-end)))))
 
 step-most : (m : Record) → length (stepLine m) ≤ 48
 step-most m = line-most (ascii "step") 4 (omega arith) (number _ (field (decimalInt (cents (m .critical))) 21 (int-most (cents (m .critical))) line-end))
@@ -96,7 +97,7 @@ trial-fits f p =
     let offers = linesTo (t .offers) (offerLineAt t r) in
     let a : length steps ≤ r .steps * 48 = lines-most (r .steps) 48 (stepLineAt r) (λ i _. step-most (recordAt r i)) in
     let b : length offers ≤ t .offers * 59 = lines-most (t .offers) 59 (offerLineAt t r) (λ i l. offer-most (getD (t .codes) i 0) (getD (t .digits) i 0) (decisionAt r i .verdict) (r .steps) (getD (r .counts) i 0) (p .digits-few i l)) in
-    omega (arith, length-append (headLine t) (steps ++ (offers ++ end)), length-append steps (offers ++ end), length-append offers end, a, b, head-most t, numbered-most (ascii "end") (rejectedCount (t .offers) (r .decisions)) (omega arith), p .run-printable .few-steps, p .offers-most)
+    omega (arith, length-append (headLine t r) (steps ++ (offers ++ end)), length-append steps (offers ++ end), length-append offers end, a, b, head-most t r, numbered-most (ascii "end") (rejectedCount (t .offers) (r .decisions)) (omega arith), p .run-printable .few-steps, p .offers-most)
 
 file-fits : (f : FileRun) → (f .run .refusal ≡ 0 → PrintableFile f) → length (textOf f) ≤ longestReport
 unfolding textOf

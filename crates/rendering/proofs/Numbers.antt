@@ -1,10 +1,8 @@
 -- Laws of numbers as text.
 --   less, remainder                      steps of a recursion over digits
---   product-fits                         M × a in 64 bits
 --   printed-none, printed-more           no digit is left; the last digit after the others
 --   decimal-none, decimal-one, -more     no digit is left; one digit; the last digit after the others
-use Prim.Native.Nat.{ℕ, zero, suc, _-_, _*_, _/_, _%_, _^_, _≤_, _<_}
-use native.Mathlib.Nat.{mul-le-mul}
+use Prim.Native.Nat.{ℕ, zero, suc, _-_, _/_, _%_, _≤_, _<_}
 use native.Mathlib.Omega.{arith}
 use mathlib.Core.Path.{_≡_, refl, sym, ap, _∙_}
 use mathlib.Core.Bool.{Bool, cond}
@@ -18,10 +16,6 @@ less n t f e = omega (arith, positive n f)
 
 pub remainder : (n : ℕ) → n % 10 < 10
 remainder n = omega arith
-
--- M × a for the largest trial and level
-pub product-fits : (m a : ℕ) → m ≤ 512 → a ≤ 16383 → m * a < 2 ^ 64
-product-fits m a h k = omega (arith, mul-le-mul h k)
 
 pub printed-none : (n c : ℕ) → n ≡ 0 → [] ≡ printed n c
 unfolding printed

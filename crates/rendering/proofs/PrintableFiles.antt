@@ -109,10 +109,7 @@ trial-printable : (t : Trial) → ArrayLengths t → trialRefusal t ≡ 0 → Pr
 trial-printable t ty h =
     let acc = accepted t h in
     record {
-      pairs-most = acc .pairs-most;
       offers-most = acc .offers-most;
-      a-most = omega (arith, acc .levelled .proper, acc .levelled .b-most);
-      b-some = omega (arith, acc .levelled .proper);
       digits-few = λ i l. offer-printed t ty h i l .digits-most;
       run-printable = run-printable t acc;
     }

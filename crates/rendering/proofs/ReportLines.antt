@@ -1,29 +1,17 @@
 -- Laws of a report's lines.
---   head-is       the first line, with rows and e computed
 --   verdict-is    the word and the step of a verdict whose case is known
 --   offer-is      an offer's line, with its verdict's word and step as one part
 --   lines-more    one line more
 --   lines-all, ends     all lines
-use Prim.Native.Nat.{ℕ, _+_, _^_, _≤_}
+use Prim.Native.Nat.{ℕ, _+_, _≤_}
 use native.Mathlib.Omega.{arith}
 use native.Mathlib.Numerals.{add-one}
-use mathlib.Core.Path.{_≡_, sym, ap, ap₂, _∙_}
+use mathlib.Core.Path.{_≡_, sym, ap}
 use mathlib.Core.List.{List, [], _∷_, _++_, append-assoc}
-use Rattle.refusals.specs.Limits.{allowance}
 use Rattle.runs.specs.declared.Verdict.{Verdict}
-use Rattle.trial.specs.Exchange.{rowTotal}
-use Rattle.trial.specs.declared.Trial.{Trial}
 use Rattle.rendering.specs.Ascii.{ascii}
-use Rattle.rendering.specs.Text.{printed, decimal, afterFirst, line}
-use Rattle.rendering.specs.Reports.{headLine, verdictWord, verdictStep, offerLine, linesTo}
-
-module _ (t : Trial) (m e : ℕ) where
-  pub head-is : m ≡ 2 ^ (t .pairs) → e ≡ allowance m (t .a) (t .b)
-      → line (ascii "trial") (decimal (t .pairs) ∷ decimal (t .offers) ∷ decimal (t .k) ∷ decimal e ∷ decimal m ∷ []) ≡ headLine t
-  unfolding rowTotal
-  head-is q r =
-      ap₂ (λ (x y : ℕ). line (ascii "trial") (decimal (t .pairs) ∷ decimal (t .offers) ∷ decimal (t .k) ∷ decimal x ∷ decimal y ∷ []))
-      (r ∙ ap (λ (n : ℕ). allowance n (t .a) (t .b)) q) q
+use Rattle.rendering.specs.Text.{printed, decimal, afterFirst}
+use Rattle.rendering.specs.Reports.{verdictWord, verdictStep, offerLine, linesTo}
 
 pub verdict-is : (last : ℕ) {v u : Verdict} → v ≡ u → ascii (verdictWord u) ++ (ascii " " ++ decimal (verdictStep last u)) ≡ ascii (verdictWord v) ++ (ascii " " ++ decimal (verdictStep last v))
 verdict-is last e = ap (λ (x : Verdict). ascii (verdictWord x) ++ (ascii " " ++ decimal (verdictStep last x))) (sym e)

@@ -33,9 +33,6 @@ unfolding trialText
 textOf f = cond (eqb (f .run .refusal) 0) (trialText (f .trial) (f .run)) (refusedText (f .run .refusal))
 
 pub record PrintableFile (f : FileRun) : Type 0 where
-  pub pairs-most : f .trial .pairs ≤ 9
   pub offers-most : f .trial .offers ≤ 16
-  pub a-most : f .trial .a ≤ 16383
-  pub b-some : 0 < f .trial .b
   pub digits-few : FewDigits (f .trial .offers) (f .trial .digits)
   pub run-printable : Printable (f .run)

@@ -1,6 +1,6 @@
 -- The report's text (document 01, "Report and C call"). Definitions only.
 --   cents c                the whole number of cents of a critical value
---   headLine t             pairs, offers, k, e and rows of a trial
+--   headLine t r           pairs, offers and k of a trial, e and M of its full run
 --   stepLine m             a step's number and critical value
 --   verdictWord v          the word for a verdict
 --   verdictStep last v     the step that rejected, or the last step
@@ -18,7 +18,6 @@ use lib.ListN.{getD}
 use lib.IntN.{ℤ}
 use lib.Ieee.{Float, nan, toSigned}
 use Rattle.refusals.specs.Answers.{answer}
-use Rattle.refusals.specs.Limits.{allowance}
 use Rattle.runs.specs.FullRuns.{acceptedRun}
 use Rattle.runs.specs.declared.Record.{Record}
 use Rattle.runs.specs.declared.Verdict.{Verdict}
@@ -26,7 +25,6 @@ use Rattle.runs.specs.declared.Verdict.the-variants.{Rejected, Kept}
 use Rattle.runs.specs.declared.FullRun.{FullRun}
 use Rattle.runs.specs.declared.Decision.{Decision}
 use Rattle.verdicts.specs.Verdicts.{rejectedCount}
-use Rattle.trial.specs.Exchange.{rowTotal}
 use Rattle.trial.specs.declared.Trial.{Trial}
 use Rattle.trialfile.specs.Words.{wordsOf}
 use Rattle.trialfile.specs.Files.{trialOf, fileChecks}
@@ -38,10 +36,8 @@ use Rattle.rendering.specs.Text.{printed, decimal, decimalInt, line}
 abbrev pub cents : Float → ℤ
 cents c = toSigned 63 c
 
-abbrev pub headLine : Trial → List ℕ
-headLine t =
-    line (ascii "trial")
-    (decimal (t .pairs) ∷ decimal (t .offers) ∷ decimal (t .k) ∷ decimal (allowance (rowTotal t) (t .a) (t .b)) ∷ decimal (rowTotal t) ∷ [])
+abbrev pub headLine : Trial → FullRun → List ℕ
+headLine t r = line (ascii "trial") (decimal (t .pairs) ∷ decimal (t .offers) ∷ decimal (t .k) ∷ decimal (r .e) ∷ decimal (r .rows) ∷ [])
 
 abbrev pub stepLine : Record → List ℕ
 stepLine m = line (ascii "step") (decimal (m .step) ∷ decimalInt (cents (m .critical)) ∷ [])
@@ -75,9 +71,9 @@ abbrev pub offerLineAt : Trial → FullRun → ℕ → List ℕ
 offerLineAt t r i = offerLine (getD (t .codes) i 0) (getD (t .digits) i 0) (decisionAt r i .verdict) (r .steps) (getD (r .counts) i 0)
 
 unfoldable pub trialText : Trial → FullRun → List ℕ
-unfolding linesTo rejectedCount allowance rowTotal
+unfolding linesTo rejectedCount
 trialText t r =
-    headLine t
+    headLine t r
     ++ (linesTo (r .steps) (stepLineAt r)
     ++ (linesTo (t .offers) (offerLineAt t r)
     ++ line (ascii "end") (decimal (rejectedCount (t .offers) (r .decisions)) ∷ [])))

@@ -26,7 +26,7 @@ fn compose(out: &mut [u8], f: FileRun) -> usize
         return lines::numbered(out, 0, b"refused", refusal as usize);
     }
     let t = f.trial;
-    let at = lines::head(out, t);
+    let at = lines::head(out, t, run);
     let at1 = lines::steps(out, at, run);
     let at2 = lines::offers(out, at1, t, run);
     let decisions = run.decisions;

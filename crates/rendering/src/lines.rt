@@ -4,47 +4,27 @@ use runs::FullRun;
 use runs::Record;
 use runs::Verdict;
 use trial::Trial;
-ghost use mathlib.Core.Path.{_≡_};
 ghost use mathlib.Core.List.{[], _∷_, _++_};
-ghost use Prim.Native.Nat.{_+_, _*_, _^_, _<_, _≤_};
+ghost use Prim.Native.Nat.{_+_, _*_, _≤_};
 ghost use lib.ListN.{length};
 ghost use lib.Dec.{T};
 ghost use lib.Ieee.{binary64, fits, inSigned};
-ghost use Rattle.refusals.specs.Limits.{allowance};
 ghost use Rattle.rendering.specs.Ascii.{ascii};
 ghost use Rattle.rendering.specs.Text.{decimal, line};
 ghost use Rattle.rendering.specs.Reports.{headLine, stepLine, verdictWord, verdictStep, offerLine, linesTo, stepLineAt, offerLineAt};
 ghost use Rattle.rendering.specs.Internal.{Wrote, Printable, FewDigits};
 
-// M: the rows of a trial's table
-fn rows(pairs: usize) -> usize
-    requires { ⌜ pairs ≤ 9 ⌝ }
-    ensures { λ r. ⌜ (r ≡ 2 ^ pairs) × (r ≤ 512) ⌝ }
+// pairs, offers, k, e and M
+pub(crate) fn head(out: &mut [u8], t: Trial, run: FullRun) -> usize
+    requires { ⌜ 128 ≤ length (now out) ⌝ }
+    ensures { λ r. ⌜ Wrote (now (out .entry)) (now (out .exit)) 0 r (headLine t run) × (r ≤ 128) ⌝ }
 {
-    1usize << pairs
-}
-
-// e: of M rows, the number that may lie above a critical value
-fn allowance(m: usize, a: usize, b: usize) -> usize
-    requires { ⌜ (m ≤ 512) × (a ≤ 16383) × (0 < b) ⌝ }
-    ensures { λ r. ⌜ r ≡ allowance m a b ⌝ }
-{
-    m * a / b
-}
-
-// pairs, offers, k, e and rows
-pub(crate) fn head(out: &mut [u8], t: Trial) -> usize
-    requires { ⌜ (128 ≤ length (now out)) × (t .pairs ≤ 9) × (t .a ≤ 16383) × (0 < t .b) ⌝ }
-    ensures { λ r. ⌜ Wrote (now (out .entry)) (now (out .exit)) 0 r (headLine t) × (r ≤ 128) ⌝ }
-{
-    let m = rows(t.pairs);
-    let e = allowance(m, t.a, t.b);
     let at = text::put_all(out, 0, b"trial");
     let at1 = text::put_field(out, at, t.pairs);
     let at2 = text::put_field(out, at1, t.offers);
     let at3 = text::put_field(out, at2, t.k);
-    let at4 = text::put_field(out, at3, e);
-    let at5 = text::put_field(out, at4, m);
+    let at4 = text::put_field(out, at3, run.e);
+    let at5 = text::put_field(out, at4, run.rows);
     text::put(out, at5, b'\n')
 }
 

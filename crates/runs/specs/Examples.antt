@@ -42,13 +42,12 @@ pub record Example : Type 0 where
   pub asked : Answer
   pub told : Answer
 
-abbrev pub whole : ℕ → Outcome → Answer
-whole e o = run e (o .verdicts) (o .counts) (o .records)
+abbrev pub whole : Outcome → Answer
+whole o = run (o .e) (o .verdicts) (o .counts) (o .records)
 
--- the full run of a table, with its e
 abbrev pub ofTable : List Float → ℕ → ℕ → ℕ → ℕ → ℕ → Answer
-unfolding tableRun allowance
-ofTable t m n k a b = whole (allowance m a b) (tableRun t m n k a b 0)
+unfolding tableRun
+ofTable t m n k a b = whole (tableRun t m n k a b 0)
 
 abbrev pub anyRejected : List Verdict → Bool
 anyRejected [] = false

@@ -30,6 +30,8 @@ unfoldable pub acceptedRun : Outcome → FullRun
 acceptedRun o =
     record {
       refusal = 0;
+      rows = o .rows;
+      e = o .e;
       steps = length (o .records);
       records = padded 32 noRecord (o .records);
       decisions = padded 32 (decision (Kept plusZero)) (map decision (o .verdicts));
@@ -37,7 +39,7 @@ acceptedRun o =
     }
 
 abbrev pub refusedRun : ℕ → FullRun
-refusedRun n = record { refusal = n; steps = 0; records = replicate 32 noRecord; decisions = replicate 32 (decision (Kept plusZero)); counts = replicate 32 0 }
+refusedRun n = record { refusal = n; rows = 0; e = 0; steps = 0; records = replicate 32 noRecord; decisions = replicate 32 (decision (Kept plusZero)); counts = replicate 32 0 }
 
 abbrev pub verdictsIn : ℕ → FullRun → List Verdict
 verdictsIn n f = map (λ d. d .verdict) (take n (f .decisions))

@@ -11,7 +11,7 @@
 --   stepsFrom n ended X s              the steps from s on until one has ended, at most n; `ended` is whether s has
 --   stepsOf X s                        all of them
 --   verdictFrom last steps j, verdictOf steps j     column j's verdict, after the last critical value so far; from the first step on
---   Outcome                            what a full run tells: verdicts, counts and records
+--   Outcome                            what a full run tells: M (the rows of its table), e, verdicts, counts and records
 --   fullRun X s                        those of the run that begins with s
 use Prim.Native.Nat.{ℕ, zero, suc, _+_}
 use mathlib.Core.Bool.{Bool, true, false, cond, _||_}
@@ -119,6 +119,8 @@ unfoldable pub verdictOf : List Step → ℕ → Verdict
 verdictOf ss j = verdictFrom plusZero ss j
 
 pub record Outcome : Type 0 where
+  pub rows : ℕ
+  pub e : ℕ
   pub verdicts : List Verdict
   pub counts : List ℕ
   pub records : List Record
@@ -128,4 +130,10 @@ unfolding stepsOf verdictOf tabulate atLeast
 fullRun X s =
     let ss = stepsOf X s in
     let seen = getD X (s .observed) [] in
-    record { verdicts = tabulate (s .columns) (λ j. verdictOf ss j); counts = tabulate (s .columns) (λ j. atLeast X (getD seen j nan) j); records = map (λ s. s .logged) ss }
+    record {
+      rows = s .rows;
+      e = s .e;
+      verdicts = tabulate (s .columns) (λ j. verdictOf ss j);
+      counts = tabulate (s .columns) (λ j. atLeast X (getD seen j nan) j);
+      records = map (λ s. s .logged) ss;
+    }

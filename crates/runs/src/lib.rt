@@ -40,10 +40,12 @@ pub struct Decision {
     pub verdict: Verdict,
 }
 
-// A full run: 0 or the refusal number; how many steps; a record for each step; a verdict and a count for each column.
-// Places that the steps and columns don't use are blank, and so are all of a refused run.
+// A full run: 0 or the refusal number; M, the rows of its table; e; how many steps; a record for each step; a verdict and a
+// count for each column. Places that the steps and columns don't use are blank, and a refused run is blank but for its number.
 pub struct FullRun {
     pub refusal: u32,
+    pub rows: usize,
+    pub e: usize,
     pub steps: usize,
     pub records: [Record; 32],
     pub decisions: [Decision; 32],
@@ -65,6 +67,8 @@ pub fn refused(number: u32) -> FullRun
     let decisions = [d; 32];
     FullRun {
         refusal: number,
+        rows: 0,
+        e: 0,
         steps: 0,
         records,
         decisions,

@@ -3,6 +3,7 @@
 --   run-turned, -short, -cramped, -free     what the call gives, by the size that it is told
 --   call-turned, -short, -cramped           the same of the answer with both buffers
 --   table-filled, trial-run, trial-work     the table in its buffer, and the full run of that table
+--   run-sizes                      M and e of the full run: the rows of the trial's table, and floor(M × a/b)
 use Prim.Native.Nat.{ℕ, _*_, _≤_, _<_}
 use native.Mathlib.Omega.{arith}
 use mathlib.Core.Path.{_≡_, refl, sym, ap, ap₂, _∙_}
@@ -22,10 +23,12 @@ use Rattle.order.proofs.Counts.{all-append}
 use Rattle.order.proofs.Rows.{soundRow}
 use Rattle.refusals.specs.Answers.{Checks, answer}
 use Rattle.refusals.specs.Buffers.{tooShort, written, cleared}
-use Rattle.refusals.specs.Limits.{badSizes}
+use Rattle.refusals.specs.Limits.{badSizes, allowance}
 use Rattle.refusals.proofs.Answers.{none-first, first-passes, answer-append, accepted}
 use Rattle.refusals.proofs.Limits.{neither, within}
+use Rattle.runs.specs.Stepdown.{fullRun}
 use Rattle.runs.specs.FullRuns.{acceptedRun, refusedRun}
+use Rattle.runs.specs.Tables.{tableRun}
 use Rattle.runs.specs.declared.FullRun.{FullRun}
 use Rattle.stepdown.specs.Refusals.{badShape, badValue, tableChecks, tableRefusal, tableRunChecks, tableRunRefusal}
 use Rattle.stepdown.specs.Answers.{fullAnswer, fullWork}
@@ -171,3 +174,9 @@ module _ (t : Trial) (s : TableSize) (q : s ≡ sizeOf t) where
             q ∙ moved (λ x m n. fullWork x m n (t .k) (t .a) (t .b) 0 work)
             ∙ sym (accepted (cleared (rowTotal t) work) (λ _. work) (tableRunChecks (tableOf t) (rowTotal t) (t .offers) (t .k) (t .a) (t .b) 0 (length work)) 0 (sym free) refl)
             ∙ run-free (cleared (rowTotal t) work) (λ _. work) (length table) (length work) z h l
+
+-- ---- the sizes that a full run tells
+
+pub run-sizes : (t : Trial) → let r = acceptedRun (trialRun t) in (r .rows ≡ rowTotal t) × (r .e ≡ allowance (rowTotal t) (t .a) (t .b))
+unfolding acceptedRun trialRun tableRun fullRun
+run-sizes t = (refl, refl)

@@ -10,7 +10,7 @@ returns : tie.Need-returns
 returns c = let n = c .before .before .numbered .ensures in (wrote-as _ (text-refused (c .before .before .before .before .before .before .before .before .args .f) (c .before .before .before .before .before .if1 .taken)) (n .0), omega (arith, n .1))
 
 head-requires : tie.Need-head-requires
-head-requires c κs = let s = c .before .before .before .before .before in let p = s .pre .1 (c .before .before .if1 .left) in (omega (arith, s .pre .0), p .pairs-most, p .a-most, p .b-some)
+head-requires c κs = let s = c .before .before .before .before .before in omega (arith, s .pre .0)
 
 steps-requires : tie.Need-steps-requires
 steps-requires c κs = let h = c .before .before .before .head in let s = c .before .before .before .before .before .before .before .before .before in let p = s .pre .1 (c .before .before .before .before .before .before .if1 .left) in (h .ensures .1, omega (arith, h .kept .0, s .pre .0), p .run-printable)

@@ -12,13 +12,13 @@ use Rattle.engine.proofs.tracing.finish.Statement.{statement}
 use Rattle.engine.proofs.tracing.finish.Tie as tie
 
 abbrev Inv-loop : tie.InvT-loop
-Inv-loop t table rows columns k observed f₀ j₀ f j = (j ≤ columns) × CheckedTable table rows columns k × (observed < rows) × Traced t × (f ≡ partialRun t table rows columns observed j)
+Inv-loop t table rows columns k e observed f₀ j₀ f j = (j ≤ columns) × CheckedTable table rows columns k × (observed < rows) × Traced t × (f ≡ partialRun t table rows columns e observed j)
 
 abbrev μ-loop : tie.MeasureT-loop
-μ-loop t table rows columns k observed f₀ j₀ f j = columns - j
+μ-loop t table rows columns k e observed f₀ j₀ f j = columns - j
 
 loop-holds : tie.Need-loop-holds Inv-loop μ-loop
-loop-holds c = let b = c .before in let q = b .before .before .pre in (omega arith, q .0, q .1, q .2, partial-start _ _ _ _ _ _ (b .refused .ensures))
+loop-holds c = let b = c .before in let q = b .before .before .pre in (omega arith, q .0, q .1, q .2, partial-start _ _ _ _ _ _ _ (b .refused .ensures))
 
 mul-at : tie.Need-mul-at Inv-loop μ-loop
 mul-at c = let l = c .before .loop .inv in let f = start-fits _ _ _ (l .1 .rows-most) (l .1 .cols-most) (l .2) in omega (arith, f, c .loop-test .taken)
@@ -45,10 +45,10 @@ loop-again : tie.Need-loop-again Inv-loop μ-loop
 loop-again c =
     let t = c .before .before .before in
     let l = t .before .loop .inv in
-    (omega (arith, t .loop-test .taken), l .1, l .2, l .3, partial-turn _ _ _ _ _ _ _ _ _ (omega (arith, t .loop-test .taken, l .1 .cols-most)) (l .4) (c .before .before .verdict .ensures) (c .at-least .ensures))
+    (omega (arith, t .loop-test .taken), l .1, l .2, l .3, partial-turn _ _ _ _ _ _ _ _ _ _ (omega (arith, t .loop-test .taken, l .1 .cols-most)) (l .4) (c .before .before .verdict .ensures) (c .at-least .ensures))
 
 returns : tie.Need-returns Inv-loop μ-loop
-returns c = let l = c .before .loop .inv in partial-end _ _ _ _ _ _ _ (l .0) (c .loop-test .left) (l .4)
+returns c = let l = c .before .loop .inv in partial-end _ _ _ _ _ _ _ _ (l .0) (c .loop-test .left) (l .4)
 
 pub finish-spec : {M : Type 1} → statement M
 finish-spec =

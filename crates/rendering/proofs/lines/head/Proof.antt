@@ -1,6 +1,5 @@
 -- `head`: the word and the five numbers, one after the other.
-use Rattle.rendering.proofs.ReportLines.{head-is}
-use Rattle.rendering.proofs.TextWrites.{then, wrote-as}
+use Rattle.rendering.proofs.TextWrites.{then}
 use native.Mathlib.Omega.{arith}
 use borrow.Author.Needs.{needs}
 use Rattle.rendering.proofs.lines.head.Statement.{statement}
@@ -15,15 +14,12 @@ returns c =
     let e = c .before .before .before .before .before .before .before .before .before .before .put-field4 .ensures in
     let m = c .before .before .before .before .before .before .put-field5 .ensures in
     let n = c .before .before .put .ensures in
-    let s = c .before .before .before .before .before .before .before .before .before .before .before .before .before .before .before .before .before .before .before .before .before .before .before .before .before .before .before .before .before in
-    (wrote-as _ (head-is _ _ _ (s .before .rows .ensures .0) (s .allowance .ensures)) (then w (then (p .0) (then (o .0) (then (k .0) (then (e .0) (then (m .0) n)))))), omega (arith, w .ends, p .1, o .1, k .1, e .1, m .1, n .ends))
+    (then w (then (p .0) (then (o .0) (then (k .0) (then (e .0) (then (m .0) n))))), omega (arith, w .ends, p .1, o .1, k .1, e .1, m .1, n .ends))
 
 pub head-spec : {M : Type 1} → statement M
 head-spec =
     tie.close
     (tie.spec
-    (λ c κs. search needs)
-    (λ c κs. search needs)
     (λ c. search needs)
     (λ c κs. search needs)
     (λ c κs. search needs)
