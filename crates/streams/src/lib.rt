@@ -1,0 +1,109 @@
+// What programs do with standard input and output: the input read to its end or till a buffer is full, a text written whole.
+// A call that a signal interrupted, or that found nothing yet or no room yet, is taken up again. One that fails says so in a line on standard error.
+ghost use Prim.Native.Nat.{_≤_};
+ghost use lib.ListN.{length};
+ghost use Rattle.io.specs.Counts.{Counts};
+use libc::STDIN_FILENO;
+use libc::STDOUT_FILENO;
+
+// What reading came to: whether no read failed, and how many bytes stand at the start of the buffer.
+pub struct Input {
+    pub whole: bool,
+    pub length: usize,
+}
+
+// How often a call is taken up again. A proved loop has to end; no run uses this up.
+const TRIES: u64 = 1 << 40;
+
+// Whether a call that answered `got` is to be made again: a signal interrupted it, or it found nothing yet or no room yet.
+fn again(got: isize) -> bool {
+    if got >= 0 {
+        return false;
+    }
+    let error = os::errno();
+    if error == libc::EAGAIN {
+        libc::sched_yield();
+        return true;
+    }
+    error == libc::EINTR
+}
+
+fn read_some(part: &mut [u8]) -> isize {
+    let mut tries = TRIES;
+    while tries > 0 {
+        let got = libc::read(STDIN_FILENO, part);
+        if !again(got) {
+            return got;
+        }
+        tries -= 1;
+    }
+    -1
+}
+
+fn write_some(part: &[u8]) -> isize {
+    let mut tries = TRIES;
+    while tries > 0 {
+        let got = libc::write(STDOUT_FILENO, part);
+        if !again(got) {
+            return got;
+        }
+        tries -= 1;
+    }
+    -1
+}
+
+// One read after the buffer's first `at` bytes; with the length `at` the input has ended.
+fn read_on(buf: &mut [u8], at: usize) -> Input
+    requires { ⌜ at ≤ length (now buf) ⌝ }
+    ensures { λ r. ⌜ (at ≤ r .length) × (r .length ≤ length (now (buf .exit))) ⌝ }
+{
+    let got = read_some(&mut buf[at..]);
+    if got < 0 {
+        os::fail(b"standard input");
+        return Input {
+            whole: false,
+            length: at,
+        };
+    }
+    let n = io::count(got, &buf[at..]);
+    Input {
+        whole: true,
+        length: at + n,
+    }
+}
+
+// Standard input into the buffer's first places, to its end or till the buffer is full.
+pub fn read_input(buf: &mut [u8]) -> Input
+    ensures { λ r. ⌜ Counts (r .length) (now (buf .exit)) ⌝ }
+{
+    let mut at: usize = 0;
+    while at < buf.len() {
+        let read = read_on(buf, at);
+        if !read.whole {
+            return read;
+        }
+        if read.length == at {
+            return read;
+        }
+        at = read.length;
+    }
+    Input {
+        whole: true,
+        length: at,
+    }
+}
+
+// All of the text to standard output; false where a write failed or took nothing, and then some of the text may have been written.
+pub fn write_output(text: &[u8]) -> bool {
+    let mut at: usize = 0;
+    while at < text.len() {
+        let part = &text[at..];
+        let n = io::count(write_some(part), part);
+        if n == 0 {
+            os::fail(b"standard output");
+            return false;
+        }
+        at += n;
+    }
+    true
+}
