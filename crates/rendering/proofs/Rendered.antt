@@ -12,13 +12,14 @@ use lib.ListN.{length, take, drop}
 use lib.Seq.{take-at}
 use lib.Dec.{ltb}
 use borrow.Author.Tests.{ltb-false}
+use Rattle.limits.specs.Limits.{longestReport}
 use Rattle.refusals.specs.Answers.{answer}
 use Rattle.refusals.specs.Buffers.{written}
 use Rattle.trial.proofs.Calls.{lent-short, lent-enough}
 use Rattle.trialrun.specs.FileRuns.{fileRun}
 use Rattle.trialrun.specs.declared.FileRun.{FileRun}
 use Rattle.rendering.specs.Reports.{reportOf}
-use Rattle.rendering.specs.Renderings.{longestReport, renderingOf, afterRendering}
+use Rattle.rendering.specs.Renderings.{renderingOf, afterRendering}
 use Rattle.rendering.specs.Internal.{Wrote, textOf}
 use Rattle.rendering.specs.declared.Rendering.{Rendering}
 use Rattle.rendering.proofs.FileTexts.{text-is}
