@@ -71,9 +71,9 @@ rendered-within bytes places = go (ltb places (length (reportOf bytes))) (ltb-fa
     go true h = omega arith
     go false h = h refl
 
--- a buffer of `longestReport` places holds every text whole
-pub rendered-whole : (bytes buf : List ℕ) → longestReport ≤ length buf → take ((renderingOf bytes (length buf)) .length) (afterRendering bytes buf) ≡ reportOf bytes
-rendered-whole bytes buf h =
+-- what a caller finds in a buffer of `longestReport` places is the whole text
+pub rendered-whole : (bytes buf out : List ℕ) (r : Rendering) → longestReport ≤ length buf → r ≡ renderingOf bytes (length buf) → out ≡ afterRendering bytes buf → take (r .length) out ≡ reportOf bytes
+rendered-whole bytes buf out r h p q =
     let d = render-done bytes buf (length (reportOf bytes)) refl (written (reportOf bytes) buf) (omega (arith, report-fits bytes)) refl in
-    ap₂ (λ (r : Rendering) (l : List ℕ). take (r .length) l) (sym (d .0)) (sym (d .1))
+    ap₂ (λ (x : Rendering) (l : List ℕ). take (x .length) l) (p ∙ sym (d .0)) (q ∙ sym (d .1))
     ∙ take-at (reportOf bytes) (drop (length (reportOf bytes)) buf) (length (reportOf bytes)) refl
