@@ -1,7 +1,7 @@
 -- A report takes no notice of what comes after one byte more than the longest file.
 --   too-long       a longer input is refused by 1
 --   cut-off        the report of the first `inputRoom` bytes is the report of them all
-use Prim.Native.Nat.{ℕ, _+_, _%_, _≤_, _<_}
+use Prim.Native.Nat.{ℕ, _%_, _≤_, _<_}
 use native.Mathlib.Omega.{arith}
 use native.Mathlib.Decide.{decLe}
 use mathlib.Core.Path.{_≡_, refl, sym, ap, _∙_}

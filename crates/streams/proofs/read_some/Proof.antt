@@ -1,7 +1,6 @@
 -- `read_some`: the tries fall, and the part keeps its length.
 use mathlib.Core.Path.{_≡_, refl}
 use lib.ListN.{length}
-use native.Mathlib.Omega.{arith}
 use borrow.Author.Needs.{needs}
 use Rattle.streams.proofs.read_some.Statement.{statement}
 use Rattle.streams.proofs.read_some.Tie as tie
