@@ -12,10 +12,11 @@ pub struct Input {
     pub length: usize,
 }
 
-// How often a call is taken up again. A proved loop has to end; no run uses this up.
-const TRIES: u64 = 1 << 40;
+// How often a call is made again: a proved loop has to end, and no run uses this up.
+const TRIES: u64 = u64::MAX;
 
 // Whether a call that answered `got` is to be made again: a signal interrupted it, or it found nothing yet or no room yet.
+// Then another process runs first: `nanosleep` takes a reference to a struct, of which the borrow checker proves no call.
 fn again(got: isize) -> bool {
     if got >= 0 {
         return false;
