@@ -1,8 +1,9 @@
 // What programs do with standard input and output: the input read to its end or till a buffer is full, a text written whole.
 // A call that a signal interrupted, or that found nothing yet or no room yet, is taken up again. One that fails says so in a line on standard error.
-ghost use Prim.Native.Nat.{_≤_};
+ghost use Prim.Native.Nat.{_+_, _^_, _≤_, _<_};
 ghost use lib.ListN.{length};
 ghost use Rattle.io.specs.Counts.{Counts};
+ghost use Rattle.streams.specs.Internal.{Told};
 use libc::STDIN_FILENO;
 use libc::STDOUT_FILENO;
 
@@ -53,24 +54,32 @@ fn write_some(part: &[u8]) -> isize {
     -1
 }
 
+// What a read that answered `got` makes of the input: `at` bytes were there, and it read into the `rest` of the buffer.
+fn told(got: isize, at: usize, rest: &[u8]) -> Input
+    requires { ⌜ at + length (now rest) < 2 ^ 64 ⌝ }
+    ensures { λ r. ⌜ Told got at (length (now (rest .entry))) r ⌝ }
+{
+    let n = io::count(got, rest);
+    if got < 0 {
+        os::fail(b"standard input");
+        return Input {
+            whole: false,
+            length: at + n,
+        };
+    }
+    Input {
+        whole: true,
+        length: at + n,
+    }
+}
+
 // One read after the buffer's first `at` bytes; with the length `at` the input has ended.
 fn read_on(buf: &mut [u8], at: usize) -> Input
     requires { ⌜ at ≤ length (now buf) ⌝ }
     ensures { λ r. ⌜ (at ≤ r .length) × (r .length ≤ length (now (buf .exit))) ⌝ }
 {
     let got = read_some(&mut buf[at..]);
-    if got < 0 {
-        os::fail(b"standard input");
-        return Input {
-            whole: false,
-            length: at,
-        };
-    }
-    let n = io::count(got, &buf[at..]);
-    Input {
-        whole: true,
-        length: at + n,
-    }
+    told(got, at, &buf[at..])
 }
 
 // Standard input into the buffer's first places, to its end or till the buffer is full.
