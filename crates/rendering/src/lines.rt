@@ -35,8 +35,8 @@ fn allowance(m: usize, a: usize, b: usize) -> usize
 
 // pairs, offers, k, e and rows
 pub(crate) fn head(out: &mut [u8], t: Trial) -> usize
-    requires { ⌜ (128 ≤ length (now out)) × (t .pairs ≤ 9) × (t .a ≤ 16383) × (0 < t .b) ⌝ }
-    ensures { λ r. ⌜ Wrote (now (out .entry)) (now (out .exit)) 0 r (headLine t) × (r ≤ 128) ⌝ }
+    requires { ⌜ (headMost ≤ length (now out)) × (t .pairs ≤ 9) × (t .a ≤ 16383) × (0 < t .b) ⌝ }
+    ensures { λ r. ⌜ Wrote (now (out .entry)) (now (out .exit)) 0 r (headLine t) × (r ≤ headMost) ⌝ }
 {
     let m = rows(t.pairs);
     let e = allowance(m, t.a, t.b);
