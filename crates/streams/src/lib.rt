@@ -17,7 +17,7 @@ pub struct Input {
 const TRIES: u64 = u64::MAX;
 
 // Whether a call that answered `got` is to be made again: a signal interrupted it, or it found nothing yet or no room yet.
-// Then another process runs first: `nanosleep` takes a reference to a struct, of which the borrow checker proves no call.
+// While it waits it lets other processes run first: `nanosleep` takes references to structs, and the borrow checker covers no such call.
 fn again(got: isize) -> bool {
     if got >= 0 {
         return false;
