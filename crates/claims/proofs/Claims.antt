@@ -2,13 +2,14 @@
 -- A contract says that a public function answers what a definition gives, for every input; the theorems are about those definitions.
 -- Every call is `answer checks accepted refused`, and every lent buffer `afterwards checks new old` (refusals/specs/Answers.antt): Calls.antt
 -- beside this page lists them, with the stated orders. docs/CLAIMS.md maps every sentence of document 01 to what keeps it.
-use Prim.Native.Nat.{ℕ, _+_, _*_, _≤_, _<_}
-use mathlib.Core.Path.{_≡_, _∙_}
+use Prim.Native.Nat.{ℕ, _*_, _≤_, _<_}
+use mathlib.Core.Path.{_≡_, refl, _∙_}
 use mathlib.Core.Bool.{Bool, true}
 use mathlib.Core.List.{List, map}
 use mathlib.Core.Logic.{_↔_, _⊎_}
 use lib.ListN.{length, take}
 use lib.Ieee.{Float, binary64, ofInt, toSigned}
+use Rattle.limits.specs.Limits.{inputRoom, longestReport}
 use Rattle.order.specs.Lists.{rowsOf}
 use Rattle.refusals.specs.Answers.{Checks, First, afterwards}
 use Rattle.refusals.specs.Limits.{allowance}
@@ -32,17 +33,20 @@ use Rattle.trial.specs.Refusals.{trialRefusal}
 use Rattle.trial.specs.declared.Trial.{Trial}
 use Rattle.trial.proofs.Exact.{row-exact}
 use Rattle.trialfile.specs.Words.{Bytes, wordsOf}
-use Rattle.trialfile.specs.Files.{longest, fileChecks, trialOf, fileRefusal, readingOf}
+use Rattle.trialfile.specs.Files.{fileChecks, trialOf, fileRefusal, readingOf}
 use Rattle.trialfile.specs.Writings.{fileLength, trimmed, writingOf, afterWriting}
 use Rattle.trialrun.specs.TrialRuns.{trialRun, runCallChecks, runCallRefusal, trialAnswer}
 use Rattle.control.proofs.Answered.{tables-answered, trials-answered}
 use Rattle.rendering.specs.Reports.{cents, recordAt, trialText, refusedText, reportOf}
-use Rattle.rendering.specs.Renderings.{longestReport, renderingOf, afterRendering}
+use Rattle.rendering.specs.Renderings.{renderingOf, afterRendering}
+use Rattle.streams.specs.Programs.{Gives}
 use Rattle.stepdown.proofs.StepByStep as steps
 use Rattle.trialrun.proofs.Runs as trialruns
 use Rattle.control.specs.Statements.{runsThatReject, SameOn, Keeps, ExchangedOn}
 use Rattle.rendering.proofs.Rendered as rendered
+use Rattle.rendering.proofs.Inputs as inputs
 use Rattle.rendering.proofs.PrintableFiles as printing
+use Rattle.streams.proofs.Programs as programs
 use Rattle.claims.proofs.Files as files
 
 -- ==== 1. Total ====
@@ -55,10 +59,10 @@ every-call = answered
 pub refused-unchanged : {A : Type 0} (cs : Checks) (new old : A) (n : ℕ) → First cs n → afterwards cs new old ≡ old
 refused-unchanged cs new old n f = answered cs new (λ _. old) .refuses n f
 
--- fed any bytes the program ends in one report or one refusal: it reads and writes as much as can matter
-pub program : (bytes buf : List ℕ) → longestReport ≤ length buf
-    → let read = take (longest + 1) bytes in take ((renderingOf read (length buf)) .length) (afterRendering read buf) ≡ reportOf bytes
-program bytes buf h = rendered.rendered-whole (take (longest + 1) bytes) buf h ∙ files.cut-off bytes
+-- fed any bytes the program ends in one report or one refusal: what it prints, of an input that it read into such a buffer, is the report of the whole input
+pub program : (whole buffer text : List ℕ) (n : ℕ) → inputRoom ≤ length buffer → longestReport ≤ length text → Gives whole buffer n
+    → let read = take n buffer in take ((renderingOf read (length text)) .length) (afterRendering read text) ≡ reportOf whole
+program whole buffer text n h k g = rendered.rendered-whole (take n buffer) text _ _ k refl refl ∙ programs.whole-input reportOf inputRoom inputs.cut-off whole buffer n h g
 
 pub report-refused : (bytes : List ℕ) (n : ℕ) → First (fileChecks bytes) n → reportOf bytes ≡ refusedText n
 unfolding reportOf

@@ -2,26 +2,19 @@
 --   same-trimmed       a trial, and the same trial with zero in the places that its counts don't use
 --   file-written       an accepted trial in a buffer that is long enough
 --   write-back, read-back      the two round trips, through the lent buffer
---   cut-off            more bytes than one above the longest file change nothing
-use Prim.Native.Nat.{ℕ, _+_, _-_, _*_, _%_, _≤_, _<_}
+use Prim.Native.Nat.{ℕ, _+_, _*_, _≤_}
 use native.Mathlib.Omega.{arith}
-use native.Mathlib.Decide.{decLe}
 use mathlib.Core.Path.{_≡_, refl, sym, ap, _∙_, subst}
-use mathlib.Core.Bool.{Bool, true, false, false≢true, cond, not, _||_}
 use mathlib.Core.List.{List}
 use lib.ListN.{length, take, drop}
-use lib.Seq.{take-at, take-all, length-take-le}
-use lib.Dec.{ltb, eqb}
-use borrow.Author.Tests.{lt-ltb}
-use Rattle.refusals.specs.Answers.{firstRefusal}
+use lib.Seq.{take-at}
 use Rattle.refusals.specs.Buffers.{written}
-use Rattle.refusals.proofs.Answers.{refused}
 use Rattle.trial.specs.Record.{ArrayLengths}
 use Rattle.trial.specs.Used.{SameUsed}
 use Rattle.trial.specs.Refusals.{trialRefusal}
 use Rattle.trial.specs.declared.Trial.{Trial}
 use Rattle.trialfile.specs.Words.{Bytes, wordsOf}
-use Rattle.trialfile.specs.Files.{longest, badLength, placeChecks, fileChecks, trialOf, fileRefusal, readingOf, wordsBefore}
+use Rattle.trialfile.specs.Files.{trialOf, fileRefusal, readingOf, wordsBefore}
 use Rattle.trialfile.specs.Writings.{fileOf, fileLength, trimmed, writingOf, afterWriting}
 use Rattle.trialfile.specs.declared.Reading.{Reading}
 use Rattle.trialfile.specs.declared.Writing.{Writing}
@@ -29,10 +22,6 @@ use Rattle.trialfile.proofs.Parts.{parts}
 use Rattle.trialfile.proofs.Writes.{writing-done}
 use Rattle.trialfile.proofs.Written.{fileLength-is}
 use Rattle.trialfile.proofs.RoundTrip.{write-read, read-taken, read-write, read-accepted, read-lengths}
-use Rattle.trialrun.specs.FileRuns.{fileRun, acceptedFile, refusedFile}
-use Rattle.rendering.specs.Reports.{reportOf}
-use Rattle.rendering.specs.Internal.{textOf}
-use Rattle.rendering.proofs.FileTexts.{text-is}
 
 module _ (t : Trial) (ty : ArrayLengths t) (h : trialRefusal t ≡ 0) where
   pub same-trimmed : SameUsed t (trimmed t)
@@ -83,29 +72,3 @@ module _ (bytes : List ℕ) (b : Bytes bytes) (h : fileRefusal bytes ≡ 0) wher
     read-back =
         subst (λ (t : Trial). (writingOf t (length buf) ≡ record { refusal = 0; length = length bytes }) × (take (length bytes) (afterWriting t buf) ≡ bytes))
         (sym (ap (λ (r : Reading). r .trial) (read-taken bytes h))) written-again
-
--- ---- input that is longer than any file
-
-too-long : (bytes : List ℕ) → longest < length bytes → fileRefusal bytes ≡ 1
-unfolding fileRefusal firstRefusal badLength
-too-long bytes h = go (eqb (length bytes) 0) (not (eqb (length bytes % 4) 0)) (ltb longest (length bytes)) (lt-ltb longest (length bytes) h)
-  where
-    go : (x y z : Bool) → z ≡ true → cond (x || (y || z)) 1 (firstRefusal (placeChecks (wordsOf bytes))) ≡ 1
-    go true y z e = refl
-    go false true z e = refl
-    go false false true e = refl
-    go false false false e = absurd (false≢true e)
-
-refused-alike : (xs ys : List ℕ) (n : ℕ) → (n ≡ 0 → ⊥) → fileRefusal xs ≡ n → fileRefusal ys ≡ n → fileRun xs ≡ fileRun ys
-unfolding fileRun fileRefusal
-refused-alike xs ys n f p q = sym (refused (acceptedFile (trialOf (wordsOf xs))) refusedFile (fileChecks xs) n (sym p) f) ∙ refused (acceptedFile (trialOf (wordsOf ys))) refusedFile (fileChecks ys) n (sym q) f
-
-pub cut-off : (bytes : List ℕ) → reportOf (take (longest + 1) bytes) ≡ reportOf bytes
-cut-off bytes = sym (text-is (take (longest + 1) bytes)) ∙ ap textOf (go (decLe (length bytes) (longest + 1))) ∙ text-is bytes
-  where
-    go : Dec (length bytes ≤ longest + 1) → fileRun (take (longest + 1) bytes) ≡ fileRun bytes
-    go (yes h) = ap fileRun (take-all (longest + 1) bytes h)
-    go (no h) =
-        let l : longest + 1 < length bytes = omega (arith, h) in
-        refused-alike (take (longest + 1) bytes) bytes 1 (λ z. omega arith)
-        (too-long (take (longest + 1) bytes) (omega (arith, length-take-le (longest + 1) bytes (omega arith)))) (too-long bytes (omega arith))

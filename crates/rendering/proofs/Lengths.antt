@@ -10,6 +10,7 @@ use lib.Dec.{ltb, eqb}
 use borrow.Author.Tests.{eqb-true}
 use native.Mathlib.Nat.{suc-mul}
 use lib.IntN.{ℤ, pos, negsuc}
+use Rattle.limits.specs.Limits.{digitsMost, stepLineMost, offerLineMost, longestReport}
 use Rattle.runs.specs.declared.Record.{Record}
 use Rattle.runs.specs.declared.Verdict.{Verdict}
 use Rattle.runs.specs.declared.Verdict.the-variants.{Rejected, Kept}
@@ -21,7 +22,6 @@ use Rattle.trialrun.specs.declared.FileRun.{FileRun}
 use Rattle.rendering.specs.Ascii.{ascii}
 use Rattle.rendering.specs.Text.{digit, printed, decimalUpTo, decimal, decimalInt, afterFirst, line}
 use Rattle.rendering.specs.Reports.{cents, headLine, stepLine, verdictWord, verdictStep, offerLine, linesTo, recordAt, decisionAt, stepLineAt, offerLineAt, trialText, refusedText, reportOf}
-use Rattle.rendering.specs.Renderings.{longestReport}
 use Rattle.rendering.specs.Internal.{textOf, PrintableFile}
 use Rattle.rendering.proofs.PrintableFiles.{printable-file}
 use Rattle.rendering.proofs.FileTexts.{text-is}
@@ -67,18 +67,18 @@ line-most {ws = ws} w a h k = omega (arith, length-append w (afterFirst ws), k .
 head-most : (t : Trial) (r : FullRun) → length (headLine t r) ≤ 111
 head-most t r = line-most (ascii "trial") 5 (omega arith) (number _ (number _ (number _ (number _ (number _ line-end)))))
 
-step-most : (m : Record) → length (stepLine m) ≤ 48
+step-most : (m : Record) → length (stepLine m) ≤ stepLineMost
 step-most m = line-most (ascii "step") 4 (omega arith) (number _ (field (decimalInt (cents (m .critical))) 21 (int-most (cents (m .critical))) line-end))
 
 word-most : (v : Verdict) → length (ascii (verdictWord v)) ≤ 8
 word-most (Rejected s c) = omega arith
 word-most (Kept c) = omega arith
 
-offer-most : (code digits : ℕ) (v : Verdict) (last n : ℕ) → digits ≤ 7 → length (offerLine code digits v last n) ≤ 59
-offer-most code digits v last n h = line-most (printed digits code) 7 (omega (arith, printed-most digits code)) (field (ascii (verdictWord v)) 8 (word-most v) (number (verdictStep last v) (number n line-end)))
+offer-most : (code digits : ℕ) (v : Verdict) (last n : ℕ) → digits ≤ digitsMost → length (offerLine code digits v last n) ≤ offerLineMost
+offer-most code digits v last n h = line-most (printed digits code) digitsMost (omega (arith, printed-most digits code)) (field (ascii (verdictWord v)) 8 (word-most v) (number (verdictStep last v) (number n line-end)))
 
-numbered-most : (w : List ℕ) (n : ℕ) → length w ≤ 7 → length (line w (decimal n ∷ [])) ≤ 29
-numbered-most w n h = line-most w 7 h (number n line-end)
+numbered-most : (w : List ℕ) (n : ℕ) → (a : ℕ) → length w ≤ a → length (line w (decimal n ∷ [])) ≤ a + 22
+numbered-most w n a h = line-most w a h (number n line-end)
 
 lines-most : (n m : ℕ) (f : ℕ → List ℕ) → ((i : ℕ) → i < n → length (f i) ≤ m) → length (linesTo n f) ≤ n * m
 unfolding linesTo
@@ -95,9 +95,9 @@ trial-fits f p =
     let end = line (ascii "end") (decimal (rejectedCount (t .offers) (r .decisions)) ∷ []) in
     let steps = linesTo (r .steps) (stepLineAt r) in
     let offers = linesTo (t .offers) (offerLineAt t r) in
-    let a : length steps ≤ r .steps * 48 = lines-most (r .steps) 48 (stepLineAt r) (λ i _. step-most (recordAt r i)) in
-    let b : length offers ≤ t .offers * 59 = lines-most (t .offers) 59 (offerLineAt t r) (λ i l. offer-most (getD (t .codes) i 0) (getD (t .digits) i 0) (decisionAt r i .verdict) (r .steps) (getD (r .counts) i 0) (p .digits-few i l)) in
-    omega (arith, length-append (headLine t r) (steps ++ (offers ++ end)), length-append steps (offers ++ end), length-append offers end, a, b, head-most t r, numbered-most (ascii "end") (rejectedCount (t .offers) (r .decisions)) (omega arith), p .run-printable .few-steps, p .offers-most)
+    let a : length steps ≤ r .steps * stepLineMost = lines-most (r .steps) stepLineMost (stepLineAt r) (λ i _. step-most (recordAt r i)) in
+    let b : length offers ≤ t .offers * offerLineMost = lines-most (t .offers) offerLineMost (offerLineAt t r) (λ i l. offer-most (getD (t .codes) i 0) (getD (t .digits) i 0) (decisionAt r i .verdict) (r .steps) (getD (r .counts) i 0) (p .digits-few i l)) in
+    omega (arith, length-append (headLine t r) (steps ++ (offers ++ end)), length-append steps (offers ++ end), length-append offers end, a, b, head-most t r, numbered-most (ascii "end") (rejectedCount (t .offers) (r .decisions)) 3 (omega arith), p .run-printable .few-steps, p .offers-most)
 
 file-fits : (f : FileRun) → (f .run .refusal ≡ 0 → PrintableFile f) → length (textOf f) ≤ longestReport
 unfolding textOf
@@ -105,7 +105,7 @@ file-fits f p = go (eqb (f .run .refusal) 0) (eqb-true (f .run .refusal) 0)
   where
     go : (b : Bool) → (b ≡ true → f .run .refusal ≡ 0) → length (cond b (trialText (f .trial) (f .run)) (refusedText (f .run .refusal))) ≤ longestReport
     go true h = trial-fits f (p (h refl))
-    go false h = omega (arith, numbered-most (ascii "refused") (f .run .refusal) (omega arith))
+    go false h = omega (arith, numbered-most (ascii "refused") (f .run .refusal) 7 (omega arith))
 
 pub report-fits : (bytes : List ℕ) → length (reportOf bytes) ≤ longestReport
 report-fits bytes = rw (← text-is bytes) (file-fits (fileRun bytes) (printable-file bytes (fileRun bytes) refl))

@@ -7,4 +7,5 @@ pub mod PrintableFiles
 pub mod FileTexts
 pub mod Lengths
 pub mod Rendered
+pub mod Inputs
 pub mod Examples

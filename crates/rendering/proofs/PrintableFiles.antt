@@ -13,6 +13,7 @@ use lib.IntN.{ℤ, pos, negsuc, natAbs}
 use lib.Ieee.{Float, nan, binary64, fits, inSigned, inFloat, ofInt}
 use lib.Ieee.Fits.{ofInt-fits}
 use lib.Ieee.Back.{positive-back, negative-back}
+use Rattle.limits.specs.Limits.{stepsMost}
 use Rattle.order.specs.Order.{plusZero}
 use Rattle.order.specs.Counting.{all}
 use Rattle.order.specs.Lists.{rowsOf}
@@ -69,7 +70,7 @@ module _ (t : Trial) where
   unfolding trialRun tableRun
   records-whole acc = records-hold wholeCents zero-whole (rowsOf (rowTotal t) (t .offers) (tableOf t)) (rows-whole acc) (tableStart (rowTotal t) (t .offers) (t .k) (t .a) (t .b) 0)
 
-  records-few : length (trialRun t .records) ≤ 32
+  records-few : length (trialRun t .records) ≤ stepsMost
   unfolding trialRun tableRun fullRun
   records-few =
       let X = rowsOf (rowTotal t) (t .offers) (tableOf t) in
@@ -86,7 +87,7 @@ module _ (t : Trial) (acc : Accepted t) where
   unfolding acceptedRun
   record-whole i h =
       let d : Record = record { step = 0; critical = nan } in
-      subst (λ (m : Record). T (wholeCents (m .critical))) (sym (List·getD-append (trialRun t .records) (replicate (32 - length (trialRun t .records)) noRecord) d i h))
+      subst (λ (m : Record). T (wholeCents (m .critical))) (sym (List·getD-append (trialRun t .records) (replicate (stepsMost - length (trialRun t .records)) noRecord) d i h))
       (all-getD (λ m. wholeCents (m .critical)) (trialRun t .records) i d h (records-whole t acc))
 
   run-printable : Printable (acceptedRun (trialRun t))

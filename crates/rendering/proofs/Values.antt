@@ -5,6 +5,7 @@ use mathlib.Core.Bool.{Bool}
 use mathlib.Core.List.{List, [], _∷_, map}
 use lib.Dec.{T}
 use lib.Ieee.{Float}
+use Rattle.limits.specs.Limits.{stepsMost}
 use Rattle.order.specs.Order.{plusZero}
 use Rattle.order.specs.Counting.{all}
 use Rattle.order.proofs.Booleans.{and-both}
@@ -21,4 +22,4 @@ module _ (p : Float → Bool) (z : T (p plusZero)) (X : List (List Float)) (h : 
 
   pub records-hold : (r : State) → T (all (λ m. p (m .critical)) (fullRun X r .records))
   unfolding fullRun stepsOf recordOf
-  records-hold r = logged-hold (stepsOf X r) (along X (λ _. Unit {0}) (λ s. T (p (s .logged .critical))) (λ _ _ _. tt) (λ r _ _. critical-keeps X r p z h) 32 (r .ended) r refl tt)
+  records-hold r = logged-hold (stepsOf X r) (along X (λ _. Unit {0}) (λ s. T (p (s .logged .critical))) (λ _ _ _. tt) (λ r _ _. critical-keeps X r p z h) stepsMost (r .ended) r refl tt)

@@ -1,5 +1,4 @@
 -- Rendering a report into a lent byte buffer. Definitions only.
---   longestReport                places that every report fits into (`report-fits`)
 --   renderChecks bytes places    what the call is refused for: 12, where the text needs more places; a file's own refusal is part of the text
 --   renderRefusal bytes places   the number of the first that holds, or 0
 --   renderingOf bytes places     what rendering answers: 0 and the length of the text, or the number of the refusal and 0
@@ -11,9 +10,6 @@ use Rattle.refusals.specs.Answers.{Checks, answer, firstRefusal, afterwards}
 use Rattle.refusals.specs.Buffers.{tooShort, written}
 use Rattle.rendering.specs.Reports.{reportOf}
 use Rattle.rendering.specs.declared.Rendering.{Rendering}
-
-abbrev pub longestReport : ℕ
-longestReport = 3000
 
 abbrev pub renderChecks : List ℕ → ℕ → Checks
 renderChecks bytes places = tooShort places (length (reportOf bytes))

@@ -2,10 +2,12 @@
 mod lines; // the lines of a report
 mod text; // words and numbers in a byte buffer
 
+use limits::LONGEST_REPORT;
 use trialrun::FileRun;
 ghost use mathlib.Core.Path.{_≡_};
 ghost use Prim.Native.Nat.{_≤_};
 ghost use lib.ListN.{length};
+ghost use Rattle.limits.specs.Limits.{longestReport};
 ghost use Rattle.rendering.specs.Renderings.{renderingOf, afterRendering};
 ghost use Rattle.rendering.specs.Internal.{Wrote, textOf, PrintableFile};
 
@@ -17,8 +19,8 @@ pub struct Rendering {
 
 // the text for what a file's full run answers
 fn compose(out: &mut [u8], f: FileRun) -> usize
-    requires { ⌜ (3000 ≤ length (now out)) × (f .run .refusal ≡ 0 → PrintableFile f) ⌝ }
-    ensures { λ r. ⌜ Wrote (now (out .entry)) (now (out .exit)) 0 r (textOf f) × (r ≤ 3000) ⌝ }
+    requires { ⌜ (longestReport ≤ length (now out)) × (f .run .refusal ≡ 0 → PrintableFile f) ⌝ }
+    ensures { λ r. ⌜ Wrote (now (out .entry)) (now (out .exit)) 0 r (textOf f) × (r ≤ longestReport) ⌝ }
 {
     let run = f.run;
     let refusal = run.refusal;
@@ -40,7 +42,7 @@ pub fn report(file: &[u8], out: &mut [u8]) -> Rendering
     ensures { λ r. ⌜ now (out .exit) ≡ afterRendering (now (file .entry)) (now (out .entry)) ⌝ }
 {
     let f = trialrun::file_run(file);
-    let mut space = [0u8; 3000];
+    let mut space = [0u8; LONGEST_REPORT];
     let n = compose(&mut space, f);
     if out.len() < n {
         return Rendering {

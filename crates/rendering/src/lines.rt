@@ -13,11 +13,12 @@ ghost use Rattle.rendering.specs.Ascii.{ascii};
 ghost use Rattle.rendering.specs.Text.{decimal, line};
 ghost use Rattle.rendering.specs.Reports.{headLine, stepLine, verdictWord, verdictStep, offerLine, linesTo, stepLineAt, offerLineAt};
 ghost use Rattle.rendering.specs.Internal.{Wrote, Printable, FewDigits};
+ghost use Rattle.limits.specs.Limits.{offersMost, digitsMost, stepsMost, headMost, stepLineMost, offerLineMost, stepsEnd, longestReport};
 
 // pairs, offers, k, e and M
 pub(crate) fn head(out: &mut [u8], t: Trial, run: FullRun) -> usize
-    requires { ⌜ 128 ≤ length (now out) ⌝ }
-    ensures { λ r. ⌜ Wrote (now (out .entry)) (now (out .exit)) 0 r (headLine t run) × (r ≤ 128) ⌝ }
+    requires { ⌜ headMost ≤ length (now out) ⌝ }
+    ensures { λ r. ⌜ Wrote (now (out .entry)) (now (out .exit)) 0 r (headLine t run) × (r ≤ headMost) ⌝ }
 {
     let at = text::put_all(out, 0, b"trial");
     let at1 = text::put_field(out, at, t.pairs);
@@ -30,8 +31,8 @@ pub(crate) fn head(out: &mut [u8], t: Trial, run: FullRun) -> usize
 
 // a step's number and critical value
 fn step(out: &mut [u8], at: usize, m: Record) -> usize
-    requires { ⌜ (at + 48 ≤ length (now out)) × T (fits binary64 (m .critical)) × T (inSigned binary64 63 (m .critical)) ⌝ }
-    ensures { λ r. ⌜ Wrote (now (out .entry)) (now (out .exit)) at r (stepLine m) × (r ≤ at + 48) ⌝ }
+    requires { ⌜ (at + stepLineMost ≤ length (now out)) × T (fits binary64 (m .critical)) × T (inSigned binary64 63 (m .critical)) ⌝ }
+    ensures { λ r. ⌜ Wrote (now (out .entry)) (now (out .exit)) at r (stepLine m) × (r ≤ at + stepLineMost) ⌝ }
 {
     let at1 = text::put_all(out, at, b"step");
     let at2 = text::put_field(out, at1, m.step);
@@ -66,8 +67,8 @@ fn offer(
     last: usize,
     count: usize,
 ) -> usize
-    requires { ⌜ (at + 59 ≤ length (now out)) × (digits ≤ 7) ⌝ }
-    ensures { λ r. ⌜ Wrote (now (out .entry)) (now (out .exit)) at r (offerLine code digits v last count) × (r ≤ at + 59) ⌝ }
+    requires { ⌜ (at + offerLineMost ≤ length (now out)) × (digits ≤ digitsMost) ⌝ }
+    ensures { λ r. ⌜ Wrote (now (out .entry)) (now (out .exit)) at r (offerLine code digits v last count) × (r ≤ at + offerLineMost) ⌝ }
 {
     let at1 = text::put_printed(out, at, code, digits);
     let at2 = text::put(out, at1, b' ');
@@ -87,8 +88,8 @@ pub(crate) fn numbered(out: &mut [u8], at: usize, word: &[u8], n: usize) -> usiz
 }
 
 pub(crate) fn steps(out: &mut [u8], at: usize, run: FullRun) -> usize
-    requires { ⌜ (at ≤ 128) × (3000 ≤ length (now out)) × Printable run ⌝ }
-    ensures { λ r. ⌜ Wrote (now (out .entry)) (now (out .exit)) at r (linesTo (run .steps) (stepLineAt run)) × (r ≤ at + 48 * 32) ⌝ }
+    requires { ⌜ (at ≤ headMost) × (longestReport ≤ length (now out)) × Printable run ⌝ }
+    ensures { λ r. ⌜ Wrote (now (out .entry)) (now (out .exit)) at r (linesTo (run .steps) (stepLineAt run)) × (r ≤ at + stepLineMost * stepsMost) ⌝ }
 {
     let n = run.steps;
     let mut next = at;
@@ -102,8 +103,8 @@ pub(crate) fn steps(out: &mut [u8], at: usize, run: FullRun) -> usize
 }
 
 pub(crate) fn offers(out: &mut [u8], at: usize, t: Trial, run: FullRun) -> usize
-    requires { ⌜ (at ≤ 1664) × (3000 ≤ length (now out)) × (t .offers ≤ 16) × FewDigits (t .offers) (t .digits) ⌝ }
-    ensures { λ r. ⌜ Wrote (now (out .entry)) (now (out .exit)) at r (linesTo (t .offers) (offerLineAt t run)) × (r ≤ at + 59 * 16) ⌝ }
+    requires { ⌜ (at ≤ stepsEnd) × (longestReport ≤ length (now out)) × (t .offers ≤ offersMost) × FewDigits (t .offers) (t .digits) ⌝ }
+    ensures { λ r. ⌜ Wrote (now (out .entry)) (now (out .exit)) at r (linesTo (t .offers) (offerLineAt t run)) × (r ≤ at + offerLineMost * offersMost) ⌝ }
 {
     let n = t.offers;
     let mut next = at;

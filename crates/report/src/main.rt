@@ -1,13 +1,24 @@
 // The report program: a trial file on standard input, its report or its refusal on standard output, and nothing else.
-// It reads one byte more than the longest file has, so that a longer input is refused by 1 and not cut.
-use libc::STDIN_FILENO;
-use libc::STDOUT_FILENO;
+use limits::INPUT_ROOM;
+use limits::LONGEST_REPORT;
+use streams::Input;
+ghost use Rattle.rendering.specs.Reports.{reportOf};
+ghost use Rattle.streams.specs.Programs.{Prints};
+
+// The one place that writes to standard output. What was read is handed over for the contract alone: the text has to be the report of the whole input.
+fn print(file: &[u8], input: Input, text: &[u8])
+    requires { ⌜ Prints reportOf (now file) input (now text) ⌝ }
+{
+    streams::write_output(text);
+}
 
 fn main() {
-    let mut file = [0u8; 653];
-    let n = io::read_full(STDIN_FILENO, &mut file);
-    let mut text = [0u8; 3000];
-    let r = rendering::report(&file[..n], &mut text);
-    let length = r.length;
-    io::write_all(STDOUT_FILENO, &text[..length]);
+    let mut file = [0u8; INPUT_ROOM];
+    let mut text = [0u8; LONGEST_REPORT];
+    let input = streams::read_input(&mut file);
+    if input.whole {
+        let n = input.length;
+        let length = rendering::report(&file[..n], &mut text).length;
+        print(&file, input, &text[..length]);
+    }
 }

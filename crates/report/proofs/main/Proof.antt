@@ -1,14 +1,18 @@
--- `main`: the rendered text is within its buffer. That it is the whole report is `rendered-whole` (crate rendering, proofs/Rendered.antt).
-use Rattle.rendering.specs.Renderings.{renderingOf}
-use Rattle.rendering.specs.declared.Rendering.{Rendering}
-use Rattle.rendering.proofs.Rendered.{rendered-within}
-use lib.Seq.{length-take-le}
+-- `main`: it reads as much as a report looks at, and its text buffer holds every report whole.
+use Prim.Native.Nat.{ℕ, _≤_}
+use native.Mathlib.Omega.{arith}
 use mathlib.Core.Path.{_≡_, sym, ap}
 use mathlib.Core.List.{List}
-use Prim.Native.Nat.{ℕ, _≤_}
 use lib.ListN.{length}
-use native.Mathlib.Omega.{arith}
+use lib.Seq.{length-take-le}
 use borrow.Author.Needs.{needs}
+use Rattle.limits.specs.Limits.{inputRoom}
+use Rattle.streams.proofs.Programs.{prints}
+use Rattle.rendering.specs.Reports.{reportOf}
+use Rattle.rendering.specs.Renderings.{renderingOf}
+use Rattle.rendering.specs.declared.Rendering.{Rendering}
+use Rattle.rendering.proofs.Rendered.{rendered-within, rendered-whole}
+use Rattle.rendering.proofs.Inputs.{cut-off}
 use Rattle.report.proofs.main.Statement.{statement}
 use Rattle.report.proofs.main.Tie as tie
 
@@ -17,10 +21,15 @@ within : (r : Rendering) (bytes out : List ℕ) (places : ℕ) → r ≡ renderi
 within r bytes out places e q = omega (arith, ap (λ (x : Rendering). x .length) e, rendered-within bytes places)
 
 array-share-prefix-text : tie.Need-array-share-prefix-text
-array-share-prefix-text c = let r = c .before .report in within _ _ (r .last .1 .0) _ (r .ensures .0) (r .kept .1 .0)
+array-share-prefix-text c = let r = c .before .before .report in omega (arith, within (r .result) _ (r .last .1 .0) _ (r .ensures .0) (r .kept .1 .0))
 
-slice-aggregate-write-all : tie.Need-slice-aggregate-write-all
-slice-aggregate-write-all c = let r = c .before .before .report in sym (length-take-le _ (r .last .1 .0) (within _ _ (r .last .1 .0) _ (r .ensures .0) (r .kept .1 .0)))
+slice-aggregate-print-2 : tie.Need-slice-aggregate-print-2
+slice-aggregate-print-2 c = sym (length-take-le _ _ (array-share-prefix-text (c .before)))
+
+print-requires : tie.Need-print-requires
+print-requires c κs =
+    let r = c .before .before .before .report in
+    prints reportOf inputRoom cut-off _ _ _ (omega arith) (search needs) (rendered-whole _ _ _ _ (omega arith) (r .ensures .0) (r .ensures .1))
 
 pub main-spec : {M : Type 1} → statement M
 main-spec =
@@ -32,7 +41,9 @@ main-spec =
     (λ c. search needs)
     (λ c. search needs)
     (λ c κs. search needs)
+    (λ c. search needs)
     array-share-prefix-text
-    slice-aggregate-write-all
-    (λ c κs. search needs)
+    slice-aggregate-print-2
+    print-requires
+    (λ c. search needs)
     (λ c. search needs))

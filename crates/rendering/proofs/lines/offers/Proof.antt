@@ -1,4 +1,5 @@
--- `offers`: the invariant is the text of the lines so far, each of at most 59 bytes.
+-- `offers`: the invariant is the text of the lines so far, each of at most `offerLineMost` bytes.
+use Rattle.limits.specs.Limits.{offersMost, offerLineMost, stepsEnd, longestReport}
 use Rattle.rendering.specs.Reports.{linesTo, offerLineAt}
 use Rattle.rendering.specs.Internal.{Wrote, FewDigits}
 use Rattle.rendering.proofs.TextWrites.{wrote-none, then, wrote-as}
@@ -13,7 +14,7 @@ use Rattle.rendering.proofs.lines.offers.Tie as tie
 
 abbrev Inv-loop : tie.InvT-loop
 Inv-loop out₀ at t run n next₀ i₀ out next i =
-    (i ≤ n) × (n ≡ t .offers) × (n ≤ 16) × (at ≤ 1664) × (3000 ≤ length out₀) × (length out ≡ length out₀) × FewDigits n (t .digits) × (next ≤ at + 59 * i) × Wrote out₀ out at next (linesTo i (offerLineAt t run))
+    (i ≤ n) × (n ≡ t .offers) × (n ≤ offersMost) × (at ≤ stepsEnd) × (longestReport ≤ length out₀) × (length out ≡ length out₀) × FewDigits n (t .digits) × (next ≤ at + offerLineMost * i) × Wrote out₀ out at next (linesTo i (offerLineAt t run))
 
 abbrev μ-loop : tie.MeasureT-loop
 μ-loop out₀ at t run n next₀ i₀ out next i = n - i

@@ -1,4 +1,5 @@
--- `steps`: the invariant is the text of the lines so far, each of at most 48 bytes.
+-- `steps`: the invariant is the text of the lines so far, each of at most `stepLineMost` bytes.
+use Rattle.limits.specs.Limits.{headMost, stepLineMost, longestReport}
 use Rattle.rendering.specs.Reports.{linesTo, stepLineAt}
 use Rattle.rendering.specs.Internal.{Wrote, Printable}
 use Rattle.rendering.proofs.TextWrites.{wrote-none, then, wrote-as}
@@ -13,7 +14,7 @@ use Rattle.rendering.proofs.lines.steps.Tie as tie
 
 abbrev Inv-loop : tie.InvT-loop
 Inv-loop out₀ at run n next₀ i₀ out next i =
-    (i ≤ n) × (n ≡ run .steps) × (at ≤ 128) × (3000 ≤ length out₀) × (length out ≡ length out₀) × Printable run × (next ≤ at + 48 * i) × Wrote out₀ out at next (linesTo i (stepLineAt run))
+    (i ≤ n) × (n ≡ run .steps) × (at ≤ headMost) × (longestReport ≤ length out₀) × (length out ≡ length out₀) × Printable run × (next ≤ at + stepLineMost * i) × Wrote out₀ out at next (linesTo i (stepLineAt run))
 
 abbrev μ-loop : tie.MeasureT-loop
 μ-loop out₀ at run n next₀ i₀ out next i = n - i
