@@ -15,9 +15,10 @@ use Rattle.runs.specs.Tables.{tableRun}
 use Rattle.runs.specs.declared.FullRun.{FullRun}
 use Rattle.stepdown.specs.Refusals.{tableRunChecks, tableRunRefusal}
 use Rattle.stepdown.specs.Answers.{fullAnswer}
+use Rattle.trial.specs.Record.{blank}
 use Rattle.trial.specs.declared.Trial.{Trial}
-use Rattle.trialfile.specs.Words.{wordsOf}
-use Rattle.trialfile.specs.Files.{trialOf, blank, fileChecks, fileRefusal, readingOf}
+use Rattle.words.specs.Words.{wordsOf}
+use Rattle.trialfile.specs.Files.{trialOf, fileChecks, fileRefusal, readingOf}
 use Rattle.trialfile.specs.Writings.{fileLength, writeChecks, writeRefusal, writingOf, afterWriting}
 use Rattle.trialfile.specs.declared.Reading.{Reading}
 use Rattle.trialfile.specs.declared.Writing.{Writing}

@@ -21,8 +21,10 @@ use Rattle.runs.specs.declared.Record.{Record}
 use Rattle.runs.specs.declared.Decision.{Decision}
 use Rattle.runs.specs.declared.FullRun.{FullRun}
 use Rattle.stepdown.specs.Refusals.{tableChecks, tableRunChecks}
+use Rattle.trial.specs.Designs.{unitsOf}
+use Rattle.trial.specs.declared.Design.the-variants.{Paired}
 use Rattle.trial.specs.declared.Trial.{Trial}
-use Rattle.trialfile.specs.Words.{wordsOf}
+use Rattle.words.specs.Words.{wordsOf}
 use Rattle.trialfile.specs.Files.{trialOf, fileChecks}
 use Rattle.trialfile.specs.Writings.{writeChecks, fileLength}
 use Rattle.rendering.specs.Reports.{reportOf}
@@ -31,27 +33,23 @@ use Rattle.rendering.specs.Renderings.{renderChecks}
 -- ---- a trial in parts
 
 abbrev pub figuresOf : Trial → List ℕ
-figuresOf t = t .a ∷ t .b ∷ t .k ∷ t .offers ∷ t .pairs ∷ []
+figuresOf t = t .level .a ∷ t .level .b ∷ t .shape .k ∷ t .shape .offers ∷ unitsOf (t .shape .design) ∷ []
 
 abbrev pub codesOf : Trial → List ℕ
-codesOf t = t .codes
+codesOf t = t .labels .codes
 
 abbrev pub digitsOf : Trial → List ℕ
-digitsOf t = t .digits
+digitsOf t = t .labels .digits
 
 abbrev pub differencesOf : Trial → List ℤ
-differencesOf t = t .differences
+differencesOf t = t .figures
 
 abbrev pub trialFrom : List ℕ → List ℕ → List ℕ → List ℤ → Trial
 trialFrom fs codes digits differences = record {
-  a = getD fs 0 0;
-  b = getD fs 1 0;
-  k = getD fs 2 0;
-  offers = getD fs 3 0;
-  pairs = getD fs 4 0;
-  codes = codes;
-  digits = digits;
-  differences = differences;
+  level = record { a = getD fs 0 0; b = getD fs 1 0 };
+  shape = record { k = getD fs 2 0; offers = getD fs 3 0; design = Paired (getD fs 4 0) };
+  labels = record { codes = codes; digits = digits };
+  figures = differences;
 }
 
 -- ---- a full run in parts

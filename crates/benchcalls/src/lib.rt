@@ -1,7 +1,13 @@
 // The calls that only the benchmark makes (docs/BENCHMARKS.md): they hand out whole answers, so that an answer can be compared and no part of it is left uncomputed.
 // Each answers 0 or the refusal number; a refused call changes no lent place. The definitions are in specs/, their laws in proofs/.
+use limits::FIGURES_MOST;
+use limits::OFFERS_MOST;
 use runs::Decision;
 use runs::Record;
+use trial::Design;
+use trial::Labels;
+use trial::Level;
+use trial::Shape;
 use trial::Trial;
 ghost use mathlib.Core.Path.{_≡_};
 ghost use mathlib.Core.List.{map};
@@ -17,21 +23,25 @@ ghost use Rattle.benchcalls.specs.Calls.{figuresOf, codesOf, digitsOf, d
 fn take_apart(
     t: Trial,
     figures: &mut [usize; 5],
-    codes: &mut [u32; 16],
-    digits: &mut [u8; 16],
-    differences: &mut [i32; 144],
+    codes: &mut [u32; OFFERS_MOST],
+    digits: &mut [u8; OFFERS_MOST],
+    differences: &mut [i32; FIGURES_MOST],
 )
     ensures { λ _. ⌜ now (figures .exit) ≡ figuresOf t ⌝ }
     ensures { λ _. ⌜ now (codes .exit) ≡ codesOf t ⌝ }
     ensures { λ _. ⌜ now (digits .exit) ≡ digitsOf t ⌝ }
     ensures { λ _. ⌜ now (differences .exit) ≡ differencesOf t ⌝ }
 {
-    *figures = [t.a, t.b, t.k, t.offers, t.pairs];
-    let c = t.codes;
+    let shape = t.shape;
+    let design = shape.design;
+    let units = trial::units(design);
+    *figures = [t.level.a, t.level.b, shape.k, shape.offers, units];
+    let labels = t.labels;
+    let c = labels.codes;
     *codes = c;
-    let g = t.digits;
+    let g = labels.digits;
     *digits = g;
-    let d = t.differences;
+    let d = t.figures;
     *differences = d;
 }
 
@@ -40,9 +50,9 @@ fn take_apart(
 pub extern "C" fn bench_read(
     file: &[u8],
     figures: &mut [usize; 5],
-    codes: &mut [u32; 16],
-    digits: &mut [u8; 16],
-    differences: &mut [i32; 144],
+    codes: &mut [u32; OFFERS_MOST],
+    digits: &mut [u8; OFFERS_MOST],
+    differences: &mut [i32; FIGURES_MOST],
 ) -> u32
     ensures { λ r. ⌜ r ≡ fileRefusal (now (file .entry)) ⌝ }
     ensures { λ r. ⌜ now (figures .exit) ≡ fromFile figuresOf (now (file .entry)) (now (figures .entry)) ⌝ }
@@ -61,21 +71,27 @@ pub extern "C" fn bench_read(
 // The trial of these figures and arrays.
 fn put_together(
     figures: &[usize; 5],
-    codes: &[u32; 16],
-    digits: &[u8; 16],
-    differences: &[i32; 144],
+    codes: &[u32; OFFERS_MOST],
+    digits: &[u8; OFFERS_MOST],
+    differences: &[i32; FIGURES_MOST],
 ) -> Trial
     ensures { λ r. ⌜ r ≡ trialFrom (now (figures .entry)) (now (codes .entry)) (now (digits .entry)) (now (differences .entry)) ⌝ }
 {
     Trial {
-        a: figures[0],
-        b: figures[1],
-        k: figures[2],
-        offers: figures[3],
-        pairs: figures[4],
-        codes: *codes,
-        digits: *digits,
-        differences: *differences,
+        level: Level {
+            a: figures[0],
+            b: figures[1],
+        },
+        shape: Shape {
+            k: figures[2],
+            offers: figures[3],
+            design: Design::Paired(figures[4]),
+        },
+        labels: Labels {
+            codes: *codes,
+            digits: *digits,
+        },
+        figures: *differences,
     }
 }
 
@@ -83,9 +99,9 @@ fn put_together(
 #[no_mangle]
 pub extern "C" fn bench_write(
     figures: &[usize; 5],
-    codes: &[u32; 16],
-    digits: &[u8; 16],
-    differences: &[i32; 144],
+    codes: &[u32; OFFERS_MOST],
+    digits: &[u8; OFFERS_MOST],
+    differences: &[i32; FIGURES_MOST],
     out: &mut [u8],
     written: &mut usize,
 ) -> u32

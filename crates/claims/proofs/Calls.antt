@@ -8,12 +8,14 @@ use Prim.Native.Nat.{ℕ, _+_, _*_, _<_}
 use mathlib.Core.Path.{_≡_, refl}
 use mathlib.Core.Bool.{true, false, not}
 use mathlib.Core.List.{List, [], _∷_, _++_}
-use lib.ListN.{length, getD, take}
+use lib.ListN.{length, getD}
 use lib.Dec.{ltb, leb, eqb}
+use lib.IntN.{pos}
 use lib.Ieee.{Float, nan}
 use Rattle.order.specs.Lists.{rowsOf}
-use Rattle.refusals.specs.Answers.{r1, r3, r4, r9, r10, r11, r12, r13, r14, answer}
-use Rattle.refusals.specs.Limits.{badLevel}
+use Rattle.refusals.specs.Answers.{r1, r3, r4, r9, r10, r11, r12, r13, r14, placesFrom, answer}
+use Rattle.limits.specs.Limits.{offersMost}
+use Rattle.refusals.specs.Limits.{badColumns, badLevel}
 use Rattle.refusals.specs.Buffers.{tooShort, written}
 use Rattle.refusals.proofs.Answers.{answered, answer-map}
 use Rattle.runs.specs.FullRuns.{noRecord, acceptedRun, refusedRun}
@@ -25,11 +27,16 @@ use Rattle.stepdown.specs.Answers.{told, toldByBeginning, toldByStep, beginAnsw
 use Rattle.stepdown.specs.declared.Run.{Run}
 use Rattle.verdicts.specs.Verdicts.{rejectedCount}
 use Rattle.trial.specs.Exchange.{rowTotal, tableOf}
-use Rattle.trial.specs.Refusals.{badCounts, offerChecks, differenceChecks, trialChecks}
+use Rattle.trial.specs.Designs.{designChecks}
+use Rattle.trial.specs.Record.{figureCount, settingOf, figuresOf}
+use Rattle.trial.specs.Refusals.{headingChecks, offerChecks, figureChecks, nth, contentChecks, trialChecks}
+use Rattle.trial.specs.declared.Shape.{Shape}
 use Rattle.trial.specs.Lent.{tableCallChecks, tableCallRefusal, tableBuffer}
 use Rattle.trial.specs.declared.Trial.{Trial}
-use Rattle.trialfile.specs.Words.{wordsOf, word, offersOf, pairsOf}
-use Rattle.trialfile.specs.Files.{badLength, levelPlace, shapePlace, bodyPlaces, fileChecks, fileRefusal, readingOf}
+use Rattle.words.specs.Words.{wordsOf, word}
+use Rattle.trialfile.specs.Layouts.{levelAt, shapeAt, layoutOf}
+use Rattle.words.specs.Words.{shapeIn}
+use Rattle.trialfile.specs.Files.{badLength, levelPlace, shapePlace, offerPlace, figurePlace, endPlace, bodyPlaces, fileChecks, fileRefusal, readingOf}
 use Rattle.trialfile.specs.Writings.{fileLength, writeChecks, writeRefusal, writingOf}
 use Rattle.trialfile.specs.declared.Writing.{Writing}
 use Rattle.trialfile.proofs.RoundTrip.{read-refusal}
@@ -45,22 +52,27 @@ use Rattle.view.proofs.Places as places
 
 -- a file: 1 first, then words from the start: level, shape, offers, differences, end
 pub file-order : (bytes : List ℕ) → let ws = wordsOf bytes in
-    fileChecks bytes ≡ (badLength bytes, r1) ∷ (levelPlace (word ws 0) ++ (shapePlace (word ws 1) ++ bodyPlaces (offersOf (word ws 1)) (pairsOf (word ws 1)) ws))
+    fileChecks bytes ≡ (badLength bytes, r1) ∷ (levelPlace (word ws levelAt) ++ (shapePlace (word ws shapeAt) ++ bodyPlaces ws (shapeIn (word ws shapeAt))))
 unfolding fileChecks
 file-order bytes = refl
 
+pub body-order : (ws : List ℕ) (s : Shape) → let l = layoutOf s in
+    bodyPlaces ws s ≡ placesFrom (offerPlace ws l) 0 (s .offers) ++ (placesFrom (figurePlace ws l) 0 (figureCount s) ++ endPlace ws (l .end))
+unfolding bodyPlaces
+body-order ws s = refl
+
 -- a trial given as a record: 4, 3, then offers (at each, 5 before 6), then differences; for its table, its run and the writer the same, then 12
 module _ (t : Trial) where
-  pub record-order : trialChecks t ≡
-      (badCounts (t .k) (t .offers) (t .pairs), r4)
-      ∷ (badLevel (t .a) (t .b), r3)
-      ∷ (offerChecks [] (take (t .offers) (t .codes)) (take (t .offers) (t .digits)) ++ differenceChecks (take (t .offers * t .pairs) (t .differences)))
-  unfolding trialChecks
+  pub record-order : let s = t .shape in trialChecks t ≡
+      ((badColumns offersMost (s .offers) (s .k), r4) ∷ (designChecks (s .design) ++ ((badLevel (t .level .a) (t .level .b), r3) ∷ [])))
+      ++ (placesFrom (offerChecks (nth (settingOf t .codes) 0) (nth (settingOf t .digits) 0)) 0 (s .offers)
+      ++ placesFrom (figureChecks (nth (figuresOf t) (pos 0))) 0 (figureCount s))
+  unfolding trialChecks contentChecks headingChecks
   record-order = refl
 
   pub lent-order : (places work : ℕ)
-      → (tableCallChecks t places ≡ trialChecks t ++ tooShort places (rowTotal t * t .offers))
-      × (runCallChecks t places work ≡ trialChecks t ++ (tooShort places (rowTotal t * t .offers) ++ tooShort work (rowTotal t)))
+      → (tableCallChecks t places ≡ trialChecks t ++ tooShort places (rowTotal t * t .shape .offers))
+      × (runCallChecks t places work ≡ trialChecks t ++ (tooShort places (rowTotal t * t .shape .offers) ++ tooShort work (rowTotal t)))
       × (writeChecks t places ≡ trialChecks t ++ tooShort places (fileLength t))
   unfolding tableCallChecks writeChecks
   lent-order places work = (refl, refl, refl)

@@ -26,15 +26,16 @@ use Rattle.stepdown.specs.Refusals.{tableRefusal, tableRunChecks, tableRunRefus
 use Rattle.stepdown.specs.Answers.{fullAnswer, fullWork}
 use Rattle.stepdown.specs.Stepping.{stepped, steppedRecords, lastRun}
 use Rattle.stepdown.specs.declared.Run.{Run}
-use Rattle.trial.specs.Record.{ArrayLengths}
-use Rattle.trial.specs.Used.{SameUsed}
-use Rattle.trial.specs.Exchange.{signedSum, byOffer, rowOf, rowTotal}
+use Rattle.trial.specs.Designs.{entryOf}
+use Rattle.trial.specs.Record.{ArrayLengths, trimmed, Same, Keeps}
+use Rattle.trial.specs.Exchange.{byOffer, rowOf, rowTotal}
 use Rattle.trial.specs.Refusals.{trialRefusal}
 use Rattle.trial.specs.declared.Trial.{Trial}
+use Rattle.trial.proofs.Unused.{same-trimmed}
 use Rattle.trial.proofs.Exact.{row-exact}
-use Rattle.trialfile.specs.Words.{Bytes, wordsOf}
+use Rattle.words.specs.Words.{Bytes, wordsOf}
 use Rattle.trialfile.specs.Files.{fileChecks, trialOf, fileRefusal, readingOf}
-use Rattle.trialfile.specs.Writings.{fileLength, trimmed, writingOf, afterWriting}
+use Rattle.trialfile.specs.Writings.{fileLength, writingOf, afterWriting}
 use Rattle.trialrun.specs.TrialRuns.{trialRun, runCallChecks, runCallRefusal, trialAnswer}
 use Rattle.control.proofs.Answered.{tables-answered, trials-answered}
 use Rattle.rendering.specs.Reports.{cents, recordAt, trialText, refusedText, reportOf}
@@ -42,7 +43,7 @@ use Rattle.rendering.specs.Renderings.{renderingOf, afterRendering}
 use Rattle.streams.specs.Programs.{Gives}
 use Rattle.stepdown.proofs.StepByStep as steps
 use Rattle.trialrun.proofs.Runs as trialruns
-use Rattle.control.specs.Statements.{runsThatReject, SameOn, Keeps, ExchangedOn}
+use Rattle.control.specs.Statements.{runsThatReject, SameOn, ListedOn}
 use Rattle.rendering.proofs.Rendered as rendered
 use Rattle.rendering.proofs.Inputs as inputs
 use Rattle.rendering.proofs.PrintableFiles as printing
@@ -91,9 +92,9 @@ pub step-ended : (t : List Float) (r : Run) (places : ℕ) → stepRefusal t r p
     → (nextRun t r .ended ≡ true) ↔ ((size (newlyRejected (rowsOf (r .rows) (r .columns) t) (stateOf r)) ≡ 0) ⊎ ((size (rejectedSet (stateOf (nextRun t r))) < r .k) ⊎ (size (leftOver (stateOf (nextRun t r))) ≡ 0)))
 step-ended = steps.step-ended
 
--- an accepted trial: its sums are exact, and its full run is that of its table
+-- an accepted trial: its entries are exact, and its full run is that of its table
 module _ (t : Trial) where
-  pub sums-exact : trialRefusal t ≡ 0 → (g : ℕ) → map (toSigned 63) (rowOf t g) ≡ map (signedSum g) (byOffer t)
+  pub sums-exact : trialRefusal t ≡ 0 → (g : ℕ) → map (toSigned 63) (rowOf t g) ≡ map (entryOf (t .shape .design) g) (byOffer t)
   sums-exact = row-exact t
 
   pub trial-run : (places work : ℕ) → runCallRefusal t places work ≡ 0 → trialAnswer t places work ≡ acceptedRun (trialRun t)
@@ -102,8 +103,8 @@ module _ (t : Trial) where
 
   -- a trial written as a file reads back as the same trial
   pub write-read : ArrayLengths t → trialRefusal t ≡ 0 → (buf : List ℕ) → fileLength t ≤ length buf
-      → (readingOf (take ((writingOf t (length buf)) .length) (afterWriting t buf)) ≡ record { refusal = 0; trial = trimmed t }) × SameUsed t (trimmed t)
-  write-read sized h buf room = (files.write-back t sized h buf room, files.same-trimmed t sized h)
+      → (readingOf (take ((writingOf t (length buf)) .length) (afterWriting t buf)) ≡ record { refusal = 0; trial = trimmed t }) × Same t (trimmed t)
+  write-read sized h buf room = (files.write-back t sized h buf room, same-trimmed t sized h)
 
 -- an accepted file is written again byte for byte
 pub read-write : (bytes : List ℕ) → Bytes bytes → fileRefusal bytes ≡ 0 → (buf : List ℕ) → length bytes ≤ length buf
@@ -119,7 +120,7 @@ pub printed-cents : (t : Trial) → trialRefusal t ≡ 0 → (i : ℕ) → i < l
 printed-cents = printing.printed-cents
 
 -- the M and e of a trial's full run, which the report prints: the rows of its table, and floor(M × a/b)
-pub run-sizes : (t : Trial) → let r = acceptedRun (trialRun t) in (r .rows ≡ rowTotal t) × (r .e ≡ allowance (rowTotal t) (t .a) (t .b))
+pub run-sizes : (t : Trial) → let r = acceptedRun (trialRun t) in (r .rows ≡ rowTotal t) × (r .e ≡ allowance (rowTotal t) (t .level .a) (t .level .b))
 run-sizes = trialruns.run-sizes
 
 -- the starred examples hold, all of them
@@ -130,13 +131,12 @@ starred = all-examples
 
 -- whichever shops the coins had picked, at most floor(2^n × a/b) of the 2^n runs reject k or more idle offers, whatever the other offers show in each run:
 -- the verdicts are those that the full runs answer, with buffers that are long enough
-pub trials : (t : Trial) (idle : ℕ → Bool) (runs : ℕ → Trial) → ArrayLengths t → trialRefusal t ≡ 0
-    → ((g : ℕ) → g < rowTotal t → ArrayLengths (runs g))
+pub trials : (t : Trial) (idle : ℕ → Bool) (runs : ℕ → Trial) → trialRefusal t ≡ 0
     → ((g : ℕ) → g < rowTotal t → trialRefusal (runs g) ≡ 0)
     → ((g : ℕ) → g < rowTotal t → Keeps t (runs g))
-    → ((g : ℕ) → g < rowTotal t → ExchangedOn idle g t (runs g))
-    → (places work : ℕ) → rowTotal t * t .offers ≤ places → rowTotal t ≤ work
-    → runsThatReject (t .k) (rowTotal t) idle (λ g. verdictsIn (t .offers) (trialAnswer (runs g) places work)) ≤ allowance (rowTotal t) (t .a) (t .b)
+    → ((g : ℕ) → g < rowTotal t → ListedOn idle g t (runs g))
+    → (places work : ℕ) → rowTotal t * t .shape .offers ≤ places → rowTotal t ≤ work
+    → runsThatReject (t .shape .k) (rowTotal t) idle (λ g. verdictsIn (t .shape .offers) (trialAnswer (runs g) places work)) ≤ allowance (rowTotal t) (t .level .a) (t .level .b)
 trials = trials-answered
 
 -- the matching promise for tables, each row as the observed one in turn

@@ -1,45 +1,29 @@
--- Files through the calls: what the writer leaves is read back, and what is read is written again; input that is cut off.
---   same-trimmed       a trial, and the same trial with zero in the places that its counts don't use
+-- Files through the calls: what the writer leaves is read back, and what is read is written again.
 --   file-written       an accepted trial in a buffer that is long enough
 --   write-back, read-back      the two round trips, through the lent buffer
-use Prim.Native.Nat.{ℕ, _+_, _*_, _≤_}
+use Prim.Native.Nat.{ℕ, _≤_}
 use native.Mathlib.Omega.{arith}
 use mathlib.Core.Path.{_≡_, refl, sym, ap, _∙_, subst}
 use mathlib.Core.List.{List}
 use lib.ListN.{length, take, drop}
 use lib.Seq.{take-at}
 use Rattle.refusals.specs.Buffers.{written}
-use Rattle.trial.specs.Record.{ArrayLengths}
-use Rattle.trial.specs.Used.{SameUsed}
+use Rattle.trial.specs.Record.{ArrayLengths, trimmed}
 use Rattle.trial.specs.Refusals.{trialRefusal}
 use Rattle.trial.specs.declared.Trial.{Trial}
-use Rattle.trialfile.specs.Words.{Bytes, wordsOf}
-use Rattle.trialfile.specs.Files.{trialOf, fileRefusal, readingOf, wordsBefore}
-use Rattle.trialfile.specs.Writings.{fileOf, fileLength, trimmed, writingOf, afterWriting}
+use Rattle.words.specs.Words.{Bytes, wordsOf}
+use Rattle.trialfile.specs.Files.{trialOf, fileRefusal, readingOf}
+use Rattle.trialfile.specs.Writings.{fileOf, fileLength, writingOf, afterWriting}
 use Rattle.trialfile.specs.declared.Reading.{Reading}
 use Rattle.trialfile.specs.declared.Writing.{Writing}
-use Rattle.trialfile.proofs.Parts.{parts}
 use Rattle.trialfile.proofs.Writes.{writing-done}
 use Rattle.trialfile.proofs.Written.{fileLength-is}
 use Rattle.trialfile.proofs.RoundTrip.{write-read, read-taken, read-write, read-accepted, read-lengths}
 
 module _ (t : Trial) (ty : ArrayLengths t) (h : trialRefusal t ≡ 0) where
-  pub same-trimmed : SameUsed t (trimmed t)
-  unfolding trimmed
-  same-trimmed = let p = parts t ty h in record {
-    a-same = refl;
-    b-same = refl;
-    k-same = refl;
-    offers-same = refl;
-    pairs-same = refl;
-    codes-same = sym (take-at (take (t .offers) (t .codes)) _ (t .offers) (p .codes-used));
-    digits-same = sym (take-at (take (t .offers) (t .digits)) _ (t .offers) (p .digits-used));
-    differences-same = sym (take-at (take (t .offers * t .pairs) (t .differences)) _ (t .offers * t .pairs) (p .differences-used));
-  }
-
   module _ (buf : List ℕ) (room : fileLength t ≤ length buf) where
     pub file-written : (record { refusal = 0; length = fileLength t } ≡ writingOf t (length buf)) × (written (fileOf t) buf ≡ afterWriting t buf)
-    file-written = writing-done t buf 0 (sym h) (wordsBefore t + 1) refl refl (written (fileOf t) buf) room refl
+    file-written = writing-done t buf 0 (sym h) (fileLength t) refl refl (written (fileOf t) buf) room refl
 
     pub file-left : take (fileLength t) (afterWriting t buf) ≡ fileOf t
     file-left =

@@ -1,3 +1,4 @@
 pub mod Files
+pub mod Examples
 pub mod Calls
 pub mod Claims

@@ -24,7 +24,7 @@ use Rattle.runs.specs.declared.Verdict.{Verdict}
 use Rattle.runs.specs.declared.Verdict.the-variants.{Kept}
 use Rattle.stepdown.specs.Refusals.{tableChecks, tableRefusal, tableRunChecks}
 use Rattle.stepdown.specs.Answers.{fullAnswer}
-use Rattle.trial.specs.Record.{ArrayLengths}
+use Rattle.trial.specs.Record.{Setting, Keeps}
 use Rattle.trial.specs.Exchange.{rowTotal, tableOf}
 use Rattle.trial.specs.Refusals.{trialRefusal}
 use Rattle.trial.specs.declared.Trial.{Trial}
@@ -33,7 +33,7 @@ use Rattle.trialrun.specs.TrialRuns.{trialRun, trialAnswer}
 use Rattle.trialrun.proofs.Runs.{run-free}
 use Rattle.control.proofs.Tables.{tables}
 use Rattle.control.proofs.Trials.{trials, same-total}
-use Rattle.control.specs.Statements.{rejectedAmong, runsThatReject, SameOn, Keeps, ExchangedOn}
+use Rattle.control.specs.Statements.{rejectedAmong, runsThatReject, SameOn, ListedOn}
 
 undecided : (vs : List Verdict) → map (λ d. d .verdict) (map decision vs) ≡ vs
 undecided [] = refl
@@ -75,27 +75,26 @@ tables-answered rows columns k a b t idle runs o ok oks same places h =
 -- ---- trials
 
 module _ (t : Trial) where
-  pub trial-answered : (places work : ℕ) → rowTotal t * t .offers ≤ places → rowTotal t ≤ work → trialRefusal t ≡ 0 → trialAnswer t places work ≡ acceptedRun (trialRun t)
+  pub trial-answered : (places work : ℕ) → rowTotal t * t .shape .offers ≤ places → rowTotal t ≤ work → trialRefusal t ≡ 0 → trialAnswer t places work ≡ acceptedRun (trialRun t)
   unfolding trialAnswer
-  trial-answered places work h l ok = sym (run-free t (record { refusal = 0; rows = rowTotal t; columns = t .offers }) (size-is t 0 (sym ok) refl) (acceptedRun (trialRun t)) refusedRun places work refl h l)
+  trial-answered places work h l ok = sym (run-free t (record { refusal = 0; rows = rowTotal t; columns = t .shape .offers }) (size-is t 0 (sym ok) refl) (acceptedRun (trialRun t)) refusedRun places work refl h l)
 
-  trial-shown : (places work : ℕ) → rowTotal t * t .offers ≤ places → rowTotal t ≤ work → trialRefusal t ≡ 0 → verdictsIn (t .offers) (trialAnswer t places work) ≡ trialRun t .verdicts
+  trial-shown : (places work : ℕ) → rowTotal t * t .shape .offers ≤ places → rowTotal t ≤ work → trialRefusal t ≡ 0 → verdictsIn (t .shape .offers) (trialAnswer t places work) ≡ trialRun t .verdicts
   unfolding trialRun
-  trial-shown places work h l ok = ap (verdictsIn (t .offers)) (trial-answered places work h l ok) ∙ verdicts-told (t .offers) (trialRun t) (verdicts-length (tableOf t) (rowTotal t) (t .offers) (t .k) (t .a) (t .b) 0)
+  trial-shown places work h l ok = ap (verdictsIn (t .shape .offers)) (trial-answered places work h l ok) ∙ verdicts-told (t .shape .offers) (trialRun t) (verdicts-length (tableOf t) (rowTotal t) (t .shape .offers) (t .shape .k) (t .level .a) (t .level .b) 0)
 
-module _ (t : Trial) (idle : ℕ → Bool) (runs : ℕ → Trial) (sized : ArrayLengths t) (ok : trialRefusal t ≡ 0)
-    (sizes : (g : ℕ) → g < rowTotal t → ArrayLengths (runs g))
+module _ (t : Trial) (idle : ℕ → Bool) (runs : ℕ → Trial) (ok : trialRefusal t ≡ 0)
     (oks : (g : ℕ) → g < rowTotal t → trialRefusal (runs g) ≡ 0)
     (keeps : (g : ℕ) → g < rowTotal t → Keeps t (runs g))
-    (ex : (g : ℕ) → g < rowTotal t → ExchangedOn idle g t (runs g)) where
-  pub trials-answered : (places work : ℕ) → rowTotal t * t .offers ≤ places → rowTotal t ≤ work
-      → runsThatReject (t .k) (rowTotal t) idle (λ g. verdictsIn (t .offers) (trialAnswer (runs g) places work)) ≤ allowance (rowTotal t) (t .a) (t .b)
+    (listing : (g : ℕ) → g < rowTotal t → ListedOn idle g t (runs g)) where
+  pub trials-answered : (places work : ℕ) → rowTotal t * t .shape .offers ≤ places → rowTotal t ≤ work
+      → runsThatReject (t .shape .k) (rowTotal t) idle (λ g. verdictsIn (t .shape .offers) (trialAnswer (runs g) places work)) ≤ allowance (rowTotal t) (t .level .a) (t .level .b)
   trials-answered places work h l =
-      omega (arith, counted (t .k) (rowTotal t) idle _ _ shown, trials t idle runs sized ok sizes oks keeps ex)
+      omega (arith, counted (t .shape .k) (rowTotal t) idle _ _ shown, trials t idle runs ok oks keeps listing)
     where
-      shown : (g : ℕ) → g < rowTotal t → verdictsIn (t .offers) (trialAnswer (runs g) places work) ≡ trialRun (runs g) .verdicts
+      shown : (g : ℕ) → g < rowTotal t → verdictsIn (t .shape .offers) (trialAnswer (runs g) places work) ≡ trialRun (runs g) .verdicts
       shown g m =
           let q = same-total t (runs g) (keeps g m) in
-          let p = keeps g m .offers in
+          let p = ap (λ (s : Setting). s .shape .offers) (keeps g m) in
           ap (λ (n : ℕ). verdictsIn n (trialAnswer (runs g) places work)) (sym p)
           ∙ trial-shown (runs g) places work (subst (λ (n : ℕ). n ≤ places) (sym (ap₂ (λ (x y : ℕ). x * y) q p)) h) (omega arith) (oks g m)

@@ -2,5 +2,6 @@ pub mod OneRun
 pub mod General
 pub mod Reorder
 pub mod Tables
+pub mod Listings
 pub mod Trials
 pub mod Answered

@@ -4,7 +4,7 @@ use mathlib.Core.List.{[], _∷_}
 use lib.Ieee.{lt, le}
 use Rattle.runs.specs.FullRuns.{acceptedRun}
 use Rattle.runs.specs.Examples.{P}
-use Rattle.trialfile.specs.Words.{bytesOf, signed}
+use Rattle.words.specs.Words.{bytesOf, signed}
 use Rattle.trialfile.specs.Examples.{wordsW}
 use Rattle.trialrun.specs.TrialRuns.{trialRun}
 use Rattle.host.specs.Calls.{trialVerdictsAnswer, trialVerdictsBuffer, tableVerdictsAnswer, tableVerdictsBuffer}

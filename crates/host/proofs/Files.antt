@@ -17,7 +17,7 @@ use Rattle.verdicts.specs.Internal.{smallSteps}
 use Rattle.trial.specs.Exchange.{rowTotal, tableOf}
 use Rattle.trial.specs.declared.Trial.{Trial}
 use Rattle.trial.proofs.Accepted.{accepted}
-use Rattle.trialfile.specs.Words.{wordsOf}
+use Rattle.words.specs.Words.{wordsOf}
 use Rattle.trialfile.specs.Files.{trialOf, fileChecks, fileRefusal}
 use Rattle.trialfile.proofs.RoundTrip.{read-accepted}
 use Rattle.trialrun.specs.TrialRuns.{trialRun}
@@ -44,14 +44,14 @@ module _ (bytes : List ℕ) (f : FileRun) (e : f ≡ fileRun bytes) where
   unfolding fileRun
   taken z = e ∙ sym (answers.accepted (acceptedFile read) refusedFile (fileChecks bytes) (f .run .refusal) number-is z)
 
-  offers-are : f .run .refusal ≡ 0 → f .trial .offers ≡ fileOffers bytes
-  offers-are z = ap (λ (x : FileRun). x .trial .offers) (taken z)
+  offers-are : f .run .refusal ≡ 0 → f .trial .shape .offers ≡ fileOffers bytes
+  offers-are z = ap (λ (x : FileRun). x .trial .shape .offers) (taken z)
 
-  pub file-known : f .run .refusal ≡ 0 → (f .trial .offers ≤ 32) × T (smallSteps (f .run .decisions))
+  pub file-known : f .run .refusal ≡ 0 → (f .trial .shape .offers ≤ 32) × T (smallSteps (f .run .decisions))
   unfolding fileRefusal trialRun
   file-known z = (
     omega (arith, offers-are z, accepted read (read-accepted bytes (sym number-is ∙ z)) .offers-most),
-    subst (λ (x : FileRun). T (smallSteps (x .run .decisions))) (sym (taken z)) (table-steps (tableOf read) (rowTotal read) (read .offers) (read .k) (read .a) (read .b) 0),
+    subst (λ (x : FileRun). T (smallSteps (x .run .decisions))) (sym (taken z)) (table-steps (tableOf read) (rowTotal read) (read .shape .offers) (read .shape .k) (read .level .a) (read .level .b) 0),
   )
 
   -- ---- the answers
@@ -74,11 +74,11 @@ module _ (bytes : List ℕ) (f : FileRun) (e : f ≡ fileRun bytes) where
       free : 0 ≡ firstRefusal (fileChecks bytes)
       free = sym z ∙ number-is
 
-      pub file-short : length buf < f .trial .offers → Done 112 buf
+      pub file-short : length buf < f .trial .shape .offers → Done 112 buf
       file-short h = refused-by 12 (short (fileChecks bytes) (length buf) (fileOffers bytes) free (omega (arith, offers-are z))) (λ n. omega arith)
 
-      pub file-done : f .trial .offers ≤ length buf → (out : List ℕ) → out ≡ written (stepBytes (f .trial .offers) (f .run .decisions)) buf → (n : ℕ) → n ≡ rejectedCount (f .trial .offers) (f .run .decisions) → Done n out
+      pub file-done : f .trial .shape .offers ≤ length buf → (out : List ℕ) → out ≡ written (stepBytes (f .trial .shape .offers) (f .run .decisions)) buf → (n : ℕ) → n ≡ rejectedCount (f .trial .shape .offers) (f .run .decisions) → Done n out
       unfolding trialVerdictsAnswer trialVerdictsBuffer firstRefusal
       file-done h out p n q =
           let g = free ∙ roomy (fileChecks bytes) (length buf) (fileOffers bytes) 0 (λ n. n) (omega (arith, offers-are z)) in
-          call-done checks (fileOffers bytes) (fileRun bytes .run .decisions) buf 0 g refl (f .trial .offers) (f .run .decisions) (offers-are z) (ap (λ (x : FileRun). x .run .decisions) e) n q out p
+          call-done checks (fileOffers bytes) (fileRun bytes .run .decisions) buf 0 g refl (f .trial .shape .offers) (f .run .decisions) (offers-are z) (ap (λ (x : FileRun). x .run .decisions) e) n q out p

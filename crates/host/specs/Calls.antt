@@ -20,7 +20,7 @@ use Rattle.runs.specs.Tables.{tableRun}
 use Rattle.runs.specs.declared.Decision.{Decision}
 use Rattle.stepdown.specs.Refusals.{tableChecks, tableRunChecks}
 use Rattle.verdicts.specs.Verdicts.{rejectedCount}
-use Rattle.trialfile.specs.Words.{wordsOf}
+use Rattle.words.specs.Words.{wordsOf}
 use Rattle.trialfile.specs.Files.{trialOf, fileChecks}
 use Rattle.trialrun.specs.FileRuns.{fileRun}
 
@@ -30,7 +30,7 @@ stepBytes n ds = map (λ d. rejectingStep (d .verdict)) (take n ds)
 -- ---- a file
 
 abbrev pub fileOffers : List ℕ → ℕ
-fileOffers bytes = trialOf (wordsOf bytes) .offers
+fileOffers bytes = trialOf (wordsOf bytes) .shape .offers
 
 abbrev pub trialVerdictsChecks : List ℕ → ℕ → Checks
 trialVerdictsChecks bytes places = fileChecks bytes ++ tooShort places (fileOffers bytes)

@@ -38,7 +38,7 @@ pub extern "C" fn becardlarder_trial_verdicts(file: &[u8], verdicts: &mut [u8]) 
         return 100 + refusal;
     }
     let trial = answer.trial;
-    let offers = trial.offers;
+    let offers = trial.shape.offers;
     if verdicts.len() < offers {
         return 112;
     }

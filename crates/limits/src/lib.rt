@@ -10,6 +10,8 @@ pub const DIGITS_MOST: usize = 7;
 
 pub const DIFFERENCE_MOST: i32 = 134217727;
 
+pub const DIFFERENCE_LEAST: i32 = -DIFFERENCE_MOST;
+
 pub const LEVEL_MOST: usize = 16383;
 
 pub const FIGURES_MOST: usize = OFFERS_MOST * PAIRS_MOST;

@@ -1,3 +1,4 @@
 pub mod Answers
 pub mod Limits
 pub mod Buffers
+pub mod Places

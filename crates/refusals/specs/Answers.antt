@@ -1,15 +1,16 @@
 -- The form of every answer: a call is refused by the first condition that holds, in the stated order, and accepted where none does. Definitions only.
 --   Refusal, number r      the refusals of document 01, and their numbers
 --   Checks                 conditions with their refusals, in order
+--   placesFrom p i n       of n places from i on, the conditions p of each in turn
 --   answer cs accepted refused     what a call gives: `accepted`, or what goes with the number of the first condition that holds
 --   firstRefusal cs        that number, and 0 where none holds
 --   afterwards cs new old  what a lent buffer holds after the call: `new`, or `old` where it is refused
 --   condition cs i, FirstAt cs i     the condition at place i holds; it is the first to hold
 --   First cs n             a condition with the number n is the first to hold
-use Prim.Native.Nat.{ℕ, _<_}
+use Prim.Native.Nat.{ℕ, zero, suc, _<_}
 use mathlib.Core.Path.{_≡_}
 use mathlib.Core.Bool.{Bool, true, false, cond}
-use mathlib.Core.List.{List, [], _∷_}
+use mathlib.Core.List.{List, [], _∷_, _++_}
 use lib.ListN.{getD}
 
 pub data Refusal : Type 0 where
@@ -48,6 +49,10 @@ number r14 = 14
 
 abbrev pub Checks : Type 0
 Checks = List (Bool × Refusal)
+
+unfoldable pub placesFrom : (ℕ → Checks) → ℕ → ℕ → Checks
+placesFrom p i zero = []
+placesFrom p i (suc n) = p i ++ placesFrom p (suc i) n
 
 unfoldable pub answer : {A : Type 0} → Checks → A → (ℕ → A) → A
 answer [] accepted refused = accepted

@@ -1,4 +1,6 @@
 // Conditions that tables and trials share. The form of an answer is in specs/Answers.antt, the laws of every call in proofs/Answers.antt.
+use limits::LEVEL_MOST;
+use limits::TOLERANCE_MOST;
 ghost use mathlib.Core.Path.{_≡_};
 ghost use Rattle.refusals.specs.Limits as limits;
 
@@ -12,6 +14,19 @@ pub fn outside(low: usize, high: usize, n: usize) -> bool
     high < n
 }
 
+// The condition of 4 with at most n columns.
+pub fn bad_columns(n: usize, columns: usize, k: usize) -> bool
+    ensures { λ r. ⌜ r ≡ limits.badColumns n columns k ⌝ }
+{
+    if outside(1, n, columns) {
+        return true;
+    }
+    if outside(1, TOLERANCE_MOST, k) {
+        return true;
+    }
+    columns < k
+}
+
 // The condition of 4 with at most m rows and n columns.
 pub fn bad_sizes(m: usize, n: usize, rows: usize, columns: usize, k: usize) -> bool
     ensures { λ r. ⌜ r ≡ limits.badSizes m n rows columns k ⌝ }
@@ -19,13 +34,7 @@ pub fn bad_sizes(m: usize, n: usize, rows: usize, columns: usize, k: usize) -> b
     if outside(1, m, rows) {
         return true;
     }
-    if outside(1, n, columns) {
-        return true;
-    }
-    if outside(1, 4, k) {
-        return true;
-    }
-    columns < k
+    bad_columns(n, columns, k)
 }
 
 // The condition of 3.
@@ -41,5 +50,5 @@ pub fn bad_level(a: usize, b: usize) -> bool
     if b <= a {
         return true;
     }
-    16383 < b
+    LEVEL_MOST < b
 }

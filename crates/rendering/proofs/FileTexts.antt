@@ -11,7 +11,7 @@ use Rattle.refusals.proofs.Answers.{accepted, refused}
 use Rattle.runs.specs.FullRuns.{acceptedRun}
 use Rattle.verdicts.specs.Verdicts.{rejectedCount}
 use Rattle.trial.specs.declared.Trial.{Trial}
-use Rattle.trialfile.specs.Words.{wordsOf}
+use Rattle.words.specs.Words.{wordsOf}
 use Rattle.trialfile.specs.Files.{trialOf, fileChecks, fileRefusal}
 use Rattle.trialrun.specs.TrialRuns.{trialRun}
 use Rattle.trialrun.specs.FileRuns.{acceptedFile, refusedFile, fileRun}
@@ -26,11 +26,11 @@ module _ (f : FileRun) where
   unfolding textOf
   text-refused h = ap (λ (b : Bool). cond b (trialText (f .trial) (f .run)) (refusedText (f .run .refusal))) (sym (ne-eqb (f .run .refusal) 0 h))
 
-  pub text-report : (n : ℕ) → f .run .refusal ≡ 0 → n ≡ rejectedCount (f .trial .offers) (f .run .decisions)
-      → headLine (f .trial) (f .run) ++ (linesTo (f .run .steps) (stepLineAt (f .run)) ++ (linesTo (f .trial .offers) (offerLineAt (f .trial) (f .run)) ++ line (ascii "end") (decimal n ∷ []))) ≡ textOf f
+  pub text-report : (n : ℕ) → f .run .refusal ≡ 0 → n ≡ rejectedCount (f .trial .shape .offers) (f .run .decisions)
+      → headLine (f .trial .shape) (f .run) ++ (linesTo (f .run .steps) (stepLineAt (f .run)) ++ (linesTo (f .trial .shape .offers) (offerLineAt (f .trial .labels) (f .run)) ++ line (ascii "end") (decimal n ∷ []))) ≡ textOf f
   unfolding textOf trialText
   text-report n h e =
-      ap (λ (m : ℕ). headLine (f .trial) (f .run) ++ (linesTo (f .run .steps) (stepLineAt (f .run)) ++ (linesTo (f .trial .offers) (offerLineAt (f .trial) (f .run)) ++ line (ascii "end") (decimal m ∷ [])))) e
+      ap (λ (m : ℕ). headLine (f .trial .shape) (f .run) ++ (linesTo (f .run .steps) (stepLineAt (f .run)) ++ (linesTo (f .trial .shape .offers) (offerLineAt (f .trial .labels) (f .run)) ++ line (ascii "end") (decimal m ∷ [])))) e
       ∙ ap (λ (b : Bool). cond b (trialText (f .trial) (f .run)) (refusedText (f .run .refusal))) (sym (eq-eqb (f .run .refusal) 0 h))
 
 -- what is composed for the answer of a file's full run is the file's report

@@ -14,7 +14,7 @@ use borrow.Author.Tests.{lt-ltb}
 use Rattle.limits.specs.Limits.{longestFile, inputRoom}
 use Rattle.refusals.specs.Answers.{firstRefusal}
 use Rattle.refusals.proofs.Answers.{refused}
-use Rattle.trialfile.specs.Words.{wordsOf}
+use Rattle.words.specs.Words.{wordsOf}
 use Rattle.trialfile.specs.Files.{badLength, placeChecks, fileChecks, trialOf, fileRefusal}
 use Rattle.trialrun.specs.FileRuns.{fileRun, acceptedFile, refusedFile}
 use Rattle.rendering.specs.Reports.{reportOf}

@@ -16,7 +16,7 @@ use Rattle.runs.specs.declared.Verdict.{Verdict}
 use Rattle.runs.specs.declared.Verdict.the-variants.{Rejected, Kept}
 use Rattle.runs.specs.declared.FullRun.{FullRun}
 use Rattle.verdicts.specs.Verdicts.{rejectedCount}
-use Rattle.trial.specs.declared.Trial.{Trial}
+use Rattle.trial.specs.declared.Shape.{Shape}
 use Rattle.trialrun.specs.FileRuns.{fileRun}
 use Rattle.trialrun.specs.declared.FileRun.{FileRun}
 use Rattle.rendering.specs.Ascii.{ascii}
@@ -64,8 +64,8 @@ number n k = field (decimal n) 20 (decimal-most 20 n) k
 line-most : {ws : List (List ℕ)} {b : ℕ} (w : List ℕ) (a : ℕ) → length w ≤ a → Most ws b → length (line w ws) ≤ a + b
 line-most {ws = ws} w a h k = omega (arith, length-append w (afterFirst ws), k .most)
 
-head-most : (t : Trial) (r : FullRun) → length (headLine t r) ≤ 111
-head-most t r = line-most (ascii "trial") 5 (omega arith) (number _ (number _ (number _ (number _ (number _ line-end)))))
+head-most : (s : Shape) (r : FullRun) → length (headLine s r) ≤ 111
+head-most s r = line-most (ascii "trial") 5 (omega arith) (number _ (number _ (number _ (number _ (number _ line-end)))))
 
 step-most : (m : Record) → length (stepLine m) ≤ stepLineMost
 step-most m = line-most (ascii "step") 4 (omega arith) (number _ (field (decimalInt (cents (m .critical))) 21 (int-most (cents (m .critical))) line-end))
@@ -92,12 +92,12 @@ unfolding trialText
 trial-fits f p =
     let t = f .trial in
     let r = f .run in
-    let end = line (ascii "end") (decimal (rejectedCount (t .offers) (r .decisions)) ∷ []) in
+    let end = line (ascii "end") (decimal (rejectedCount (t .shape .offers) (r .decisions)) ∷ []) in
     let steps = linesTo (r .steps) (stepLineAt r) in
-    let offers = linesTo (t .offers) (offerLineAt t r) in
+    let offers = linesTo (t .shape .offers) (offerLineAt (t .labels) r) in
     let a : length steps ≤ r .steps * stepLineMost = lines-most (r .steps) stepLineMost (stepLineAt r) (λ i _. step-most (recordAt r i)) in
-    let b : length offers ≤ t .offers * offerLineMost = lines-most (t .offers) offerLineMost (offerLineAt t r) (λ i l. offer-most (getD (t .codes) i 0) (getD (t .digits) i 0) (decisionAt r i .verdict) (r .steps) (getD (r .counts) i 0) (p .digits-few i l)) in
-    omega (arith, length-append (headLine t r) (steps ++ (offers ++ end)), length-append steps (offers ++ end), length-append offers end, a, b, head-most t r, numbered-most (ascii "end") (rejectedCount (t .offers) (r .decisions)) 3 (omega arith), p .run-printable .few-steps, p .offers-most)
+    let b : length offers ≤ t .shape .offers * offerLineMost = lines-most (t .shape .offers) offerLineMost (offerLineAt (t .labels) r) (λ i l. offer-most (getD (t .labels .codes) i 0) (getD (t .labels .digits) i 0) (decisionAt r i .verdict) (r .steps) (getD (r .counts) i 0) (p .digits-few i l)) in
+    omega (arith, length-append (headLine (t .shape) r) (steps ++ (offers ++ end)), length-append steps (offers ++ end), length-append offers end, a, b, head-most (t .shape) r, numbered-most (ascii "end") (rejectedCount (t .shape .offers) (r .decisions)) 3 (omega arith), p .run-printable .few-steps, p .offers-most)
 
 file-fits : (f : FileRun) → (f .run .refusal ≡ 0 → PrintableFile f) → length (textOf f) ≤ longestReport
 unfolding textOf

@@ -8,4 +8,3 @@ pub mod FileTexts
 pub mod Lengths
 pub mod Rendered
 pub mod Inputs
-pub mod Examples

@@ -7,7 +7,8 @@ use native.Mathlib.Omega.{arith}
 use mathlib.Core.Path.{_≡_, sym, ap, _∙_, subst}
 use mathlib.Core.Bool.{Bool, _&&_}
 use mathlib.Core.List.{List}
-use lib.ListN.{length, length-map, replicate, List·getD-append}
+use lib.ListN.{length, getD, length-map, replicate, List·getD-append}
+use lib.Seq.{getD-take}
 use lib.Dec.{T, le→leb, lt→ltb}
 use lib.IntN.{ℤ, pos, negsuc, natAbs}
 use lib.Ieee.{Float, nan, binary64, fits, inSigned, inFloat, ofInt}
@@ -30,14 +31,14 @@ use Rattle.runs.specs.declared.Step.{Step}
 use Rattle.runs.proofs.Termination.{steps-few}
 use Rattle.trial.specs.Exchange.{rowTotal, rowOf, trialRows, tableOf}
 use Rattle.trial.specs.Refusals.{trialRefusal}
-use Rattle.trial.specs.Record.{ArrayLengths}
+use Rattle.trial.specs.Record.{settingOf}
 use Rattle.trial.specs.declared.Trial.{Trial}
 use Rattle.trial.proofs.Accepted.{Accepted, accepted}
 use Rattle.trial.proofs.Tables.{rowOf-all, tableOf-rows}
-use Rattle.trialfile.specs.Words.{wordsOf}
+use Rattle.words.specs.Words.{wordsOf}
 use Rattle.trialfile.specs.Files.{trialOf, fileChecks, fileRefusal}
-use Rattle.trialfile.proofs.Writes.{offer-printed}
-use Rattle.trialfile.proofs.RoundTrip.{read-accepted, read-lengths}
+use Rattle.trialfile.proofs.RoundTrip.{read-accepted}
+use Rattle.trialfile.proofs.Written.{printed}
 use Rattle.trialrun.specs.TrialRuns.{trialRun}
 use Rattle.trialrun.specs.FileRuns.{acceptedFile, refusedFile, fileRun}
 use Rattle.trialrun.specs.declared.FileRun.{FileRun}
@@ -62,19 +63,19 @@ unfolding wholeCents ofInt
 zero-whole = ofInt-whole (pos 0) (omega arith)
 
 module _ (t : Trial) where
-  rows-whole : Accepted t → T (all (all wholeCents) (rowsOf (rowTotal t) (t .offers) (tableOf t)))
+  rows-whole : Accepted t → T (all (all wholeCents) (rowsOf (rowTotal t) (t .shape .offers) (tableOf t)))
   unfolding trialRows
   rows-whole acc = rw (tableOf-rows t) (all-tabulate (all wholeCents) (rowTotal t) (λ g. rowOf t g) (λ g. rowOf-all wholeCents ofInt-whole t g acc))
 
   records-whole : Accepted t → T (all (λ m. wholeCents (m .critical)) (trialRun t .records))
   unfolding trialRun tableRun
-  records-whole acc = records-hold wholeCents zero-whole (rowsOf (rowTotal t) (t .offers) (tableOf t)) (rows-whole acc) (tableStart (rowTotal t) (t .offers) (t .k) (t .a) (t .b) 0)
+  records-whole acc = records-hold wholeCents zero-whole (rowsOf (rowTotal t) (t .shape .offers) (tableOf t)) (rows-whole acc) (tableStart (rowTotal t) (t .shape .offers) (t .shape .k) (t .level .a) (t .level .b) 0)
 
   records-few : length (trialRun t .records) ≤ stepsMost
   unfolding trialRun tableRun fullRun
   records-few =
-      let X = rowsOf (rowTotal t) (t .offers) (tableOf t) in
-      let s = tableStart (rowTotal t) (t .offers) (t .k) (t .a) (t .b) 0 in
+      let X = rowsOf (rowTotal t) (t .shape .offers) (tableOf t) in
+      let s = tableStart (rowTotal t) (t .shape .offers) (t .shape .k) (t .level .a) (t .level .b) 0 in
       omega (arith, length-map (stepsOf X s) (λ (x : Step). x .logged), steps-few X s)
 
 -- ---- the run of an accepted trial
@@ -106,12 +107,12 @@ printed-cents t h i l = let p = run-printable t (accepted t h) in cents-exact (r
 
 -- ---- the file
 
-trial-printable : (t : Trial) → ArrayLengths t → trialRefusal t ≡ 0 → PrintableFile (acceptedFile t)
-trial-printable t ty h =
+trial-printable : (t : Trial) → trialRefusal t ≡ 0 → PrintableFile (acceptedFile t)
+trial-printable t h =
     let acc = accepted t h in
     record {
       offers-most = acc .offers-most;
-      digits-few = λ i l. offer-printed t ty h i l .digits-most;
+      digits-few = λ i l. omega (arith, getD-take (t .shape .offers) (t .labels .digits) i 0 l, printed (getD (settingOf t .codes) i 0) (getD (settingOf t .digits) i 0) (acc .labels-pass i l .0) .1);
       run-printable = run-printable t acc;
     }
 
@@ -125,4 +126,4 @@ module _ (bytes : List ℕ) where
   unfolding fileRun fileRefusal
   printable-file f e h =
       let n : f .run .refusal ≡ fileRefusal bytes = ap (λ (g : FileRun). g .run .refusal) e ∙ run-number in
-      subst PrintableFile (answers.accepted (acceptedFile (trialOf (wordsOf bytes))) refusedFile (fileChecks bytes) (f .run .refusal) n h ∙ sym e) (trial-printable (trialOf (wordsOf bytes)) (read-lengths bytes (sym n ∙ h)) (read-accepted bytes (sym n ∙ h)))
+      subst PrintableFile (answers.accepted (acceptedFile (trialOf (wordsOf bytes))) refusedFile (fileChecks bytes) (f .run .refusal) n h ∙ sym e) (trial-printable (trialOf (wordsOf bytes)) (read-accepted bytes (sym n ∙ h)))

@@ -34,6 +34,6 @@ unfolding trialText
 textOf f = cond (eqb (f .run .refusal) 0) (trialText (f .trial) (f .run)) (refusedText (f .run .refusal))
 
 pub record PrintableFile (f : FileRun) : Type 0 where
-  pub offers-most : f .trial .offers ≤ offersMost
-  pub digits-few : FewDigits (f .trial .offers) (f .trial .digits)
+  pub offers-most : f .trial .shape .offers ≤ offersMost
+  pub digits-few : FewDigits (f .trial .shape .offers) (f .trial .labels .digits)
   pub run-printable : Printable (f .run)

@@ -1,6 +1,6 @@
 -- The report's text (document 01, "Report and C call"). Definitions only.
 --   cents c                the whole number of cents of a critical value
---   headLine t r           pairs, offers and k of a trial, e and M of its full run
+--   headLine s r           figures of an offer, offers and k of a shape, e and M of a full run
 --   stepLine m             a step's number and critical value
 --   verdictWord v          the word for a verdict
 --   verdictStep last v     the step that rejected, or the last step
@@ -25,8 +25,11 @@ use Rattle.runs.specs.declared.Verdict.the-variants.{Rejected, Kept}
 use Rattle.runs.specs.declared.FullRun.{FullRun}
 use Rattle.runs.specs.declared.Decision.{Decision}
 use Rattle.verdicts.specs.Verdicts.{rejectedCount}
+use Rattle.trial.specs.Designs.{unitsOf}
+use Rattle.trial.specs.declared.Labels.{Labels}
+use Rattle.trial.specs.declared.Shape.{Shape}
 use Rattle.trial.specs.declared.Trial.{Trial}
-use Rattle.trialfile.specs.Words.{wordsOf}
+use Rattle.words.specs.Words.{wordsOf}
 use Rattle.trialfile.specs.Files.{trialOf, fileChecks}
 use Rattle.trialrun.specs.TrialRuns.{trialRun}
 use Rattle.rendering.specs.Ascii.{ascii}
@@ -36,8 +39,8 @@ use Rattle.rendering.specs.Text.{printed, decimal, decimalInt, line}
 abbrev pub cents : Float → ℤ
 cents c = toSigned 63 c
 
-abbrev pub headLine : Trial → FullRun → List ℕ
-headLine t r = line (ascii "trial") (decimal (t .pairs) ∷ decimal (t .offers) ∷ decimal (t .k) ∷ decimal (r .e) ∷ decimal (r .rows) ∷ [])
+abbrev pub headLine : Shape → FullRun → List ℕ
+headLine s r = line (ascii "trial") (decimal (unitsOf (s .design)) ∷ decimal (s .offers) ∷ decimal (s .k) ∷ decimal (r .e) ∷ decimal (r .rows) ∷ [])
 
 abbrev pub stepLine : Record → List ℕ
 stepLine m = line (ascii "step") (decimal (m .step) ∷ decimalInt (cents (m .critical)) ∷ [])
@@ -67,16 +70,16 @@ decisionAt r i = getD (r .decisions) i (record { verdict = Rejected 0 nan })
 abbrev pub stepLineAt : FullRun → ℕ → List ℕ
 stepLineAt r i = stepLine (recordAt r i)
 
-abbrev pub offerLineAt : Trial → FullRun → ℕ → List ℕ
-offerLineAt t r i = offerLine (getD (t .codes) i 0) (getD (t .digits) i 0) (decisionAt r i .verdict) (r .steps) (getD (r .counts) i 0)
+abbrev pub offerLineAt : Labels → FullRun → ℕ → List ℕ
+offerLineAt l r i = offerLine (getD (l .codes) i 0) (getD (l .digits) i 0) (decisionAt r i .verdict) (r .steps) (getD (r .counts) i 0)
 
 unfoldable pub trialText : Trial → FullRun → List ℕ
-unfolding linesTo rejectedCount
+unfolding unitsOf linesTo rejectedCount
 trialText t r =
-    headLine t r
+    headLine (t .shape) r
     ++ (linesTo (r .steps) (stepLineAt r)
-    ++ (linesTo (t .offers) (offerLineAt t r)
-    ++ line (ascii "end") (decimal (rejectedCount (t .offers) (r .decisions)) ∷ [])))
+    ++ (linesTo (t .shape .offers) (offerLineAt (t .labels) r)
+    ++ line (ascii "end") (decimal (rejectedCount (t .shape .offers) (r .decisions)) ∷ [])))
 
 abbrev pub refusedText : ℕ → List ℕ
 refusedText n = line (ascii "refused") (decimal n ∷ [])

@@ -28,11 +28,13 @@ fn compose(out: &mut [u8], f: FileRun) -> usize
         return lines::numbered(out, 0, b"refused", refusal as usize);
     }
     let t = f.trial;
-    let at = lines::head(out, t, run);
+    let shape = t.shape;
+    let labels = t.labels;
+    let at = lines::head(out, shape, run);
     let at1 = lines::steps(out, at, run);
-    let at2 = lines::offers(out, at1, t, run);
+    let at2 = lines::offers(out, at1, labels, shape.offers, run);
     let decisions = run.decisions;
-    let n = verdicts::rejected_count(decisions, t.offers);
+    let n = verdicts::rejected_count(decisions, shape.offers);
     lines::numbered(out, at2, b"end", n)
 }
 

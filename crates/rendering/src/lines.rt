@@ -3,7 +3,8 @@ use crate::text;
 use runs::FullRun;
 use runs::Record;
 use runs::Verdict;
-use trial::Trial;
+use trial::Labels;
+use trial::Shape;
 ghost use mathlib.Core.List.{[], _∷_, _++_};
 ghost use Prim.Native.Nat.{_+_, _*_, _≤_};
 ghost use lib.ListN.{length};
@@ -15,15 +16,17 @@ ghost use Rattle.rendering.specs.Reports.{headLine, stepLine, verdictWor
 ghost use Rattle.rendering.specs.Internal.{Wrote, Printable, FewDigits};
 ghost use Rattle.limits.specs.Limits.{offersMost, digitsMost, stepsMost, headMost, stepLineMost, offerLineMost, stepsEnd, longestReport};
 
-// pairs, offers, k, e and M
-pub(crate) fn head(out: &mut [u8], t: Trial, run: FullRun) -> usize
+// figures of an offer, offers, k, e and M
+pub(crate) fn head(out: &mut [u8], shape: Shape, run: FullRun) -> usize
     requires { ⌜ headMost ≤ length (now out) ⌝ }
-    ensures { λ r. ⌜ Wrote (now (out .entry)) (now (out .exit)) 0 r (headLine t run) × (r ≤ headMost) ⌝ }
+    ensures { λ r. ⌜ Wrote (now (out .entry)) (now (out .exit)) 0 r (headLine shape run) × (r ≤ headMost) ⌝ }
 {
+    let design = shape.design;
+    let units = trial::units(design);
     let at = text::put_all(out, 0, b"trial");
-    let at1 = text::put_field(out, at, t.pairs);
-    let at2 = text::put_field(out, at1, t.offers);
-    let at3 = text::put_field(out, at2, t.k);
+    let at1 = text::put_field(out, at, units);
+    let at2 = text::put_field(out, at1, shape.offers);
+    let at3 = text::put_field(out, at2, shape.k);
     let at4 = text::put_field(out, at3, run.e);
     let at5 = text::put_field(out, at4, run.rows);
     text::put(out, at5, b'\n')
@@ -102,11 +105,10 @@ pub(crate) fn steps(out: &mut [u8], at: usize, run: FullRun) -> usize
     next
 }
 
-pub(crate) fn offers(out: &mut [u8], at: usize, t: Trial, run: FullRun) -> usize
-    requires { ⌜ (at ≤ stepsEnd) × (longestReport ≤ length (now out)) × (t .offers ≤ offersMost) × FewDigits (t .offers) (t .digits) ⌝ }
-    ensures { λ r. ⌜ Wrote (now (out .entry)) (now (out .exit)) at r (linesTo (t .offers) (offerLineAt t run)) × (r ≤ at + offerLineMost * offersMost) ⌝ }
+pub(crate) fn offers(out: &mut [u8], at: usize, labels: Labels, n: usize, run: FullRun) -> usize
+    requires { ⌜ (at ≤ stepsEnd) × (longestReport ≤ length (now out)) × (n ≤ offersMost) × FewDigits n (labels .digits) ⌝ }
+    ensures { λ r. ⌜ Wrote (now (out .entry)) (now (out .exit)) at r (linesTo n (offerLineAt labels run)) × (r ≤ at + offerLineMost * offersMost) ⌝ }
 {
-    let n = t.offers;
     let mut next = at;
     let mut i: usize = 0;
     while i < n {
@@ -115,8 +117,8 @@ pub(crate) fn offers(out: &mut [u8], at: usize, t: Trial, run: FullRun) -> usize
         next = offer(
             out,
             next,
-            t.codes[i] as usize,
-            t.digits[i] as usize,
+            labels.codes[i] as usize,
+            labels.digits[i] as usize,
             v,
             run.steps,
             run.counts[i],

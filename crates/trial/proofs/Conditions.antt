@@ -1,18 +1,17 @@
 -- Laws by which the checks of a record are proved.
 --   digits-..                        the tests of 5, one after the other
 --   earlier-..                       one more number, the last first (6)
---   offersFrom, offers-..            the checks of the offers from i on, and what one more offer adds
---   differencesFrom, differences-..  the same of the differences (7)
+--   offer-judged, figure-judged      the conditions of one place, as the code tests them
+--   offer-same                       numbers and digits that agree are judged alike
+--   heading-..                       4, what the layout adds, and 3
 --   refusal-..                       each answer is the first condition of the record's list that holds
-use Prim.Native.Nat.{ℕ, zero, suc, _+_, _-_, _*_, _^_, _≤_, _<_}
-use native.Mathlib.Numerals.{add-one}
+use Prim.Native.Nat.{ℕ, zero, suc, _-_, _^_, _≤_, _<_}
 use native.Mathlib.Omega.{arith}
-use native.Mathlib.Nat.{mul-le-mul}
-use mathlib.Core.Path.{_≡_, refl, sym, ap, _∙_, subst}
+use mathlib.Core.Path.{_≡_, refl, sym, ap, ap₂, _∙_, subst}
 use mathlib.Core.Bool.{Bool, true, false, cond, _||_}
 use mathlib.Core.List.{List, [], _∷_, _++_}
 use lib.ListN.{length, getD, take}
-use lib.Seq.{slice, slice-cons, slice-empty}
+use lib.Seq.{getD-take}
 use lib.Dec.{T, leb, eqb}
 use lib.IntN.{ℤ, pos, negsuc}
 use lib.Signed.{ltZ, mag}
@@ -20,21 +19,27 @@ use mir.Syntax.{w32}
 use mir.Val.{toZ, ofZ}
 use mir.Facts.{toZ-ofZ}
 use borrow.Author.Tests.{ltb-true, ltb-false, lt-ltb, le-ltb, eq-eqb, ne-eqb}
-use Rattle.order.proofs.Booleans.{or-holds, or-passes}
-use Rattle.refusals.specs.Answers.{r3, r4, r5, r6, Checks, firstRefusal}
-use Rattle.refusals.specs.Limits.{outside, badLevel}
-use Rattle.refusals.proofs.Answers.{none-holds, judged, judged-last, first-decides, first-passes}
-use Rattle.refusals.proofs.Limits.{inside, sizes}
-use Rattle.trial.specs.Internal.{earlierOf}
-use Rattle.trial.specs.Refusals.{badCounts, badDigits, among, badDifference, offerChecks, differenceChecks, trialChecks, trialRefusal}
+use Rattle.limits.specs.Limits.{offersMost, pairsMost, digitsMost, differenceMost}
+use Rattle.order.proofs.Booleans.{or-holds, or-passes, holds, passes}
+use Rattle.refusals.specs.Answers.{r3, r5, r6, r7, Checks, placesFrom, firstRefusal}
+use Rattle.refusals.specs.Limits.{outside, badColumns, badLevel}
+use Rattle.refusals.proofs.Answers.{none-holds, none-append, judged, judged-last, first-decides, first-passes}
+use Rattle.refusals.proofs.Places.{places-same}
+use Rattle.refusals.proofs.Limits.{inside, fitting}
+use Rattle.trial.specs.Designs.{designChecks, unitsOf}
+use Rattle.trial.specs.Record.{figureCount, settingOf, figuresOf}
+use Rattle.trial.specs.Refusals.{badDigits, among, badDifference, headingChecks, earlier, offerChecks, figureChecks, nth, contentChecks, trialChecks, trialRefusal}
+use Rattle.trial.specs.declared.Level.{Level}
+use Rattle.trial.specs.declared.Shape.{Shape}
 use Rattle.trial.specs.declared.Trial.{Trial}
+use Rattle.trial.proofs.LaidOut.{laid-out}
 
 -- ---- 5
 
 abbrev pub limits : List ℕ
 limits = 1 ∷ 10 ∷ 100 ∷ 1000 ∷ 10000 ∷ 100000 ∷ 1000000 ∷ 10000000 ∷ []
 
-limit : (d : ℕ) → d ≤ 7 → getD limits d 0 ≡ 10 ^ d
+limit : (d : ℕ) → d ≤ digitsMost → getD limits d 0 ≡ 10 ^ d
 limit zero h = refl
 limit (suc zero) h = refl
 limit (suc (suc zero)) h = refl
@@ -45,150 +50,145 @@ limit (suc (suc (suc (suc (suc (suc zero)))))) h = refl
 limit (suc (suc (suc (suc (suc (suc (suc zero))))))) h = refl
 limit (suc (suc (suc (suc (suc (suc (suc (suc d)))))))) h = absurd (omega arith)
 
-pub digits-most : (d : ℕ) (b : Bool) → b ≡ outside 1 7 d → b ≡ false → d ≤ 7
-digits-most d b e h = inside 1 7 d (sym e ∙ h) .1
+pub digits-most : (d : ℕ) (b : Bool) → b ≡ outside 1 digitsMost d → b ≡ false → d ≤ digitsMost
+digits-most d b e h = inside 1 digitsMost d (sym e ∙ h) .1
 
-module _ (c d : ℕ) (b : Bool) (e : b ≡ outside 1 7 d) where
+module _ (c d : ℕ) (b : Bool) (e : b ≡ outside 1 digitsMost d) where
   pub digits-outside : b ≡ true → true ≡ badDigits c d
   unfolding badDigits
-  digits-outside h = or-holds (outside 1 7 d) (leb (10 ^ d) c) (sym e ∙ h)
+  digits-outside h = or-holds (outside 1 digitsMost d) (leb (10 ^ d) c) (sym e ∙ h)
 
   pub digits-few : b ≡ false → leb (getD limits d 0) c ≡ badDigits c d
   unfolding badDigits
-  digits-few h = or-passes (outside 1 7 d) (leb (10 ^ d) c) (leb (getD limits d 0) c) (sym e ∙ h) (ap (λ (n : ℕ). leb n c) (limit d (digits-most d b e h)))
+  digits-few h = or-passes (outside 1 digitsMost d) (leb (10 ^ d) c) (leb (getD limits d 0) c) (sym e ∙ h) (ap (λ (n : ℕ). leb n c) (limit d (digits-most d b e h)))
+
+-- of digits in a byte
+pub digits-wide : (c d n : ℕ) (b : Bool) → n ≡ d → b ≡ badDigits c n → b ≡ badDigits c d
+digits-wide c d n b e f = f ∙ ap (badDigits c) e
 
 -- ---- 6
 
-module _ (cs : List ℕ) (c j : ℕ) where
-  earlier-more : 0 < j → among c (earlierOf j cs) ≡ (eqb c (getD cs (j - 1) 0) || among c (earlierOf (j - 1) cs))
-  unfolding among earlierOf
-  earlier-more h = let e : j ≡ suc (j - 1) = omega arith in ap (λ (n : ℕ). among c (earlierOf n cs)) e
+module _ (code : ℕ → ℕ) (c j : ℕ) where
+  earlier-more : 0 < j → among c (earlier code j) ≡ (eqb c (code (j - 1)) || among c (earlier code (j - 1)))
+  unfolding among earlier
+  earlier-more h = let e : j ≡ suc (j - 1) = omega arith in ap (λ (n : ℕ). among c (earlier code n)) e
 
-  pub earlier-hit : 0 < j → c ≡ getD cs (j - 1) 0 → among c (earlierOf j cs) ≡ true
-  earlier-hit h e = earlier-more h ∙ ap (λ (b : Bool). b || among c (earlierOf (j - 1) cs)) (eq-eqb c (getD cs (j - 1) 0) e)
+  pub earlier-hit : 0 < j → c ≡ code (j - 1) → among c (earlier code j) ≡ true
+  earlier-hit h e = earlier-more h ∙ ap (λ (b : Bool). b || among c (earlier code (j - 1))) (eq-eqb c (code (j - 1)) e)
 
-  pub earlier-turn : 0 < j → (c ≡ getD cs (j - 1) 0 → ⊥) → among c (earlierOf j cs) ≡ among c (earlierOf (j - 1) cs)
-  earlier-turn h e = earlier-more h ∙ ap (λ (b : Bool). b || among c (earlierOf (j - 1) cs)) (ne-eqb c (getD cs (j - 1) 0) e)
+  pub earlier-turn : 0 < j → (c ≡ code (j - 1) → ⊥) → among c (earlier code j) ≡ among c (earlier code (j - 1))
+  earlier-turn h e = earlier-more h ∙ ap (λ (b : Bool). b || among c (earlier code (j - 1))) (ne-eqb c (code (j - 1)) e)
 
-  pub earlier-none : j ≤ 0 → among c (earlierOf j cs) ≡ false
-  unfolding among earlierOf
+  pub earlier-none : j ≤ 0 → among c (earlier code j) ≡ false
+  unfolding among earlier
   earlier-none h = let e : j ≡ 0 = omega arith in rw e
 
--- the checks of the offers from i on
-unfoldable pub offersFrom : ℕ → ℕ → List ℕ → List ℕ → ℕ
-unfolding firstRefusal offerChecks earlierOf
-offersFrom i n cs ds = firstRefusal (offerChecks (earlierOf i cs) (slice i n cs) (slice i n ds))
+-- 5 before 6, as the code tests them
+pub offer-judged : (code digits : ℕ → ℕ) (i : ℕ) (b q : Bool) (s r : ℕ) → b ≡ badDigits (code i) (digits i) → q ≡ among (code i) (earlier code i) → s ≡ cond q 6 0 → r ≡ cond b 5 s
+    → r ≡ firstRefusal (offerChecks code digits i)
+offer-judged code digits i b q s r e g six five = judged b _ r5 r e _ s (judged-last q _ r6 s g six) five
 
-module _ (cs ds : List ℕ) (n i : ℕ) where
-  pub offers-start : firstRefusal (offerChecks [] (take n cs) (take n ds)) ≡ offersFrom 0 n cs ds
-  unfolding offersFrom earlierOf
-  offers-start = refl
+-- numbers and digits that agree are judged alike
+module _ (f g d e : ℕ → ℕ) (n : ℕ) (h : (j : ℕ) → j < n → f j ≡ g j) (k : (j : ℕ) → j < n → d j ≡ e j) where
+  earlier-same : (i : ℕ) → i ≤ n → earlier f i ≡ earlier g i
+  unfolding earlier
+  earlier-same zero l = refl
+  earlier-same (suc i) l = ap₂ (λ (x : ℕ) (xs : List ℕ). x ∷ xs) (h i (omega arith)) (earlier-same i (omega arith))
 
-  abbrev offerAt : Checks
-  offerAt = (badDigits (getD cs i 0) (getD ds i 0), r5) ∷ (among (getD cs i 0) (earlierOf i cs), r6) ∷ []
-
-  offers-more : i < n → n ≤ length cs → n ≤ length ds
-      → offersFrom i n cs ds ≡ firstRefusal (offerAt ++ offerChecks (earlierOf (i + 1) cs) (slice (i + 1) n cs) (slice (i + 1) n ds))
-  unfolding offersFrom offerChecks earlierOf
-  offers-more h k l = rw (add-one, slice-cons i n cs 0 h k, slice-cons i n ds 0 h l)
-
-  module _ (h : i < n) (k : n ≤ length cs) (l : n ≤ length ds) (b q : Bool) (s r : ℕ) (e : b ≡ badDigits (getD cs i 0) (getD ds i 0)) (g : q ≡ among (getD cs i 0) (earlierOf i cs)) (six : s ≡ cond q 6 0) (five : r ≡ cond b 5 s) where
-    rest : Checks
-    rest = offerChecks (earlierOf (i + 1) cs) (slice (i + 1) n cs) (slice (i + 1) n ds)
-
-    here : r ≡ firstRefusal offerAt
-    here = judged b _ r5 r e _ s (judged-last q _ r6 s g six) five
-
-    pub offers-refused : (r ≡ 0 → ⊥) → offersFrom i n cs ds ≡ r
-    unfolding rest
-    offers-refused z = offers-more h k l ∙ first-decides offerAt rest r here z
-
-    pub offers-turn : r ≡ 0 → offersFrom i n cs ds ≡ offersFrom (i + 1) n cs ds
-    unfolding rest offersFrom
-    offers-turn z = offers-more h k l ∙ first-passes offerAt rest r here z
-
-  pub offers-none : n ≤ i → i ≤ n → offersFrom i n cs ds ≡ 0
-  unfolding offersFrom firstRefusal offerChecks
-  offers-none h k = let e : i ≡ n = omega arith in rw (e, slice-empty n cs)
+  pub offer-same : (i : ℕ) → i < n → offerChecks f d i ≡ offerChecks g e i
+  offer-same i l = rw (earlier-same i (omega arith), h i l, k i l)
 
 -- ---- 7
 
 bad-low : (d : ℤ) (m : ℕ) → ltZ d (negsuc m) ≡ true → 134217726 ≤ m → true ≡ badDifference d
 unfolding badDifference
 bad-low (pos n) m h l = absurd (subst (λ (b : Bool). T b) (sym h) tt)
-bad-low (negsuc n) m h l = let g = ltb-true m n h in sym (lt-ltb 134217727 (suc n) (omega arith))
+bad-low (negsuc n) m h l = let g = ltb-true m n h in sym (lt-ltb differenceMost (suc n) (omega arith))
 
-bad-high : (d : ℤ) → ltZ d (negsuc 134217726) ≡ false → ltZ (pos 134217727) d ≡ badDifference d
+bad-high : (d : ℤ) → ltZ d (negsuc 134217726) ≡ false → ltZ (pos differenceMost) d ≡ badDifference d
 unfolding badDifference
 bad-high (pos n) h = refl
-bad-high (negsuc n) h = let g = ltb-false 134217726 n h in sym (le-ltb 134217727 (suc n) (omega arith))
+bad-high (negsuc n) h = let g = ltb-false 134217726 n h in sym (le-ltb differenceMost (suc n) (omega arith))
 
 -- the same of a difference that was read from its bits
 module _ (x d : ℤ) (e : x ≡ d) where
   pub difference-low : (m : ℕ) → ltZ x (negsuc m) ≡ true → 134217726 ≤ m → true ≡ badDifference d
   difference-low m h l = bad-low d m (ap (λ (z : ℤ). ltZ z (negsuc m)) (sym e) ∙ h) l
 
-  pub difference-high : ltZ x (negsuc 134217726) ≡ false → ltZ (pos 134217727) x ≡ badDifference d
-  difference-high h = ap (ltZ (pos 134217727)) e ∙ bad-high d (ap (λ (z : ℤ). ltZ z (negsuc 134217726)) (sym e) ∙ h)
+  pub difference-high : ltZ x (negsuc 134217726) ≡ false → ltZ (pos differenceMost) x ≡ badDifference d
+  difference-high h = ap (ltZ (pos differenceMost)) e ∙ bad-high d (ap (λ (z : ℤ). ltZ z (negsuc 134217726)) (sym e) ∙ h)
 
--- the checks of the differences from i on
-unfoldable pub differencesFrom : ℕ → ℕ → List ℤ → ℕ
-unfolding firstRefusal differenceChecks
-differencesFrom i n ds = firstRefusal (differenceChecks (slice i n ds))
-
-module _ (ds : List ℤ) (n i : ℕ) where
-  pub differences-start : firstRefusal (differenceChecks (take n ds)) ≡ differencesFrom 0 n ds
-  unfolding differencesFrom
-  differences-start = refl
-
-  differences-more : i < n → n ≤ length ds → differencesFrom i n ds ≡ cond (badDifference (getD ds i (pos 0))) 7 (differencesFrom (i + 1) n ds)
-  unfolding differencesFrom firstRefusal differenceChecks
-  differences-more h k = rw (add-one, slice-cons i n ds (pos 0) h k)
-
-  module _ (h : i < n) (k : n ≤ length ds) (fits : mag (getD ds i (pos 0)) < 2 ^ 31) (b : Bool) (e : b ≡ badDifference (toZ w32 (ofZ w32 (getD ds i (pos 0))))) where
-    read : badDifference (getD ds i (pos 0)) ≡ b
-    read = sym (e ∙ ap badDifference (toZ-ofZ (record { sfits = fits })))
-
-    pub differences-next : (x : Bool) → b ≡ x → differencesFrom i n ds ≡ cond x 7 (differencesFrom (i + 1) n ds)
-    differences-next x f = differences-more h k ∙ ap (λ (y : Bool). cond y 7 (differencesFrom (i + 1) n ds)) (read ∙ f)
-
-  pub differences-none : n ≤ i → i ≤ n → differencesFrom i n ds ≡ 0
-  unfolding differencesFrom firstRefusal differenceChecks
-  differences-none h k = let e : i ≡ n = omega arith in rw (e, slice-empty n ds)
+-- one figure, as the code reads it from its bits
+pub figure-judged : (xs : List ℤ) (i : ℕ) (b : Bool) → mag (getD xs i (pos 0)) < 2 ^ 31 → b ≡ badDifference (toZ w32 (ofZ w32 (getD xs i (pos 0)))) → (r : ℕ) → r ≡ cond b 7 0
+    → r ≡ firstRefusal (figureChecks (nth xs (pos 0)) i)
+figure-judged xs i b fits e r f = judged-last b _ r7 r (e ∙ ap badDifference (toZ-ofZ (record { sfits = fits }))) f
 
 -- ---- the checks of a record, in order
 
-abbrev figureChecks : Trial → Checks
-figureChecks t = (badCounts (t .k) (t .offers) (t .pairs), r4) ∷ (badLevel (t .a) (t .b), r3) ∷ []
+abbrev offersPart : Trial → Checks
+offersPart t = placesFrom (offerChecks (nth (settingOf t .codes) 0) (nth (settingOf t .digits) 0)) 0 (t .shape .offers)
 
-abbrev codeChecks : Trial → Checks
-codeChecks t = offerChecks [] (take (t .offers) (t .codes)) (take (t .offers) (t .digits))
+abbrev figuresPart : Trial → Checks
+figuresPart t = placesFrom (figureChecks (nth (figuresOf t) (pos 0))) 0 (figureCount (t .shape))
 
-abbrev lastChecks : Trial → Checks
-lastChecks t = differenceChecks (take (t .offers * t .pairs) (t .differences))
+-- in the arrays
+offers-held : (t : Trial) → offersPart t ≡ placesFrom (offerChecks (nth (t .labels .codes) 0) (nth (t .labels .digits) 0)) 0 (t .shape .offers)
+offers-held t =
+    let n = t .shape .offers in
+    let same : (xs : List ℕ) (j : ℕ) → j < n → getD (take n xs) j 0 ≡ getD xs j 0 = λ xs j l. getD-take n xs j 0 l in
+    places-same _ _ n (offer-same (nth (take n (t .labels .codes)) 0) (nth (t .labels .codes) 0) (nth (take n (t .labels .digits)) 0) (nth (t .labels .digits) 0) n (same (t .labels .codes)) (same (t .labels .digits)))
 
-module _ (t : Trial) (b l : Bool) (s r : ℕ) (counts : b ≡ badCounts (t .k) (t .offers) (t .pairs)) (level : l ≡ badLevel (t .a) (t .b)) (three : s ≡ cond l 3 0) (four : r ≡ cond b 4 s) where
-  figures : r ≡ firstRefusal (figureChecks t)
-  figures = judged b _ r4 r counts _ s (judged-last l _ r3 s level three) four
+figures-held : (t : Trial) → figuresPart t ≡ placesFrom (figureChecks (nth (t .figures) (pos 0))) 0 (figureCount (t .shape))
+figures-held t =
+    let n = figureCount (t .shape) in
+    places-same (figureChecks (nth (figuresOf t) (pos 0))) (figureChecks (nth (t .figures) (pos 0))) n (λ j l. ap (λ (x : ℤ). (badDifference x, r7) ∷ []) (getD-take n (t .figures) j (pos 0) l))
 
-  pub refusal-figures : (r ≡ 0 → ⊥) → r ≡ trialRefusal t
-  unfolding trialRefusal trialChecks
-  refusal-figures h = sym (first-decides (figureChecks t) (codeChecks t ++ lastChecks t) r figures h)
+-- 4, then what the layout adds, then 3
+module _ (l : Level) (s : Shape) (b : Bool) (counts : b ≡ badColumns offersMost (s .offers) (s .k)) where
+  abbrev levelChecks : Checks
+  levelChecks = (badLevel (l .a) (l .b), r3) ∷ []
+
+  pub heading-counts : b ≡ true → 4 ≡ firstRefusal (headingChecks l s)
+  unfolding headingChecks firstRefusal
+  heading-counts h = holds (badColumns offersMost (s .offers) (s .k)) 4 (firstRefusal (designChecks (s .design) ++ levelChecks)) (sym counts ∙ h)
+
+  module _ (h : b ≡ false) (r : ℕ) (e : r ≡ firstRefusal (designChecks (s .design))) where
+    past-counts : firstRefusal (designChecks (s .design) ++ levelChecks) ≡ firstRefusal (headingChecks l s)
+    unfolding headingChecks firstRefusal
+    past-counts = passes (badColumns offersMost (s .offers) (s .k)) 4 (firstRefusal (designChecks (s .design) ++ levelChecks)) _ (sym counts ∙ h) refl
+
+    pub heading-layout : (r ≡ 0 → ⊥) → r ≡ firstRefusal (headingChecks l s)
+    heading-layout z = sym (first-decides (designChecks (s .design)) levelChecks r e z) ∙ past-counts
+
+    pub heading-level : r ≡ 0 → (q : Bool) → q ≡ badLevel (l .a) (l .b) → (n : ℕ) → n ≡ cond q 3 0 → n ≡ firstRefusal (headingChecks l s)
+    heading-level z q f n g = judged-last q _ r3 n f g ∙ sym (first-passes (designChecks (s .design)) levelChecks r e z) ∙ past-counts
+
+module _ (t : Trial) (r : ℕ) (heading : r ≡ firstRefusal (headingChecks (t .level) (t .shape))) where
+  pub refusal-heading : (r ≡ 0 → ⊥) → r ≡ trialRefusal t
+  unfolding trialRefusal trialChecks contentChecks
+  refusal-heading h = sym (first-decides (headingChecks (t .level) (t .shape)) (offersPart t ++ figuresPart t) r heading h)
 
   module _ (passed : r ≡ 0) where
-    -- no more offers and pairs than the record has places for
-    pub places-held : (t .offers ≤ 16) × (t .pairs ≤ 9) × (t .offers * t .pairs ≤ 144)
-    places-held = let f = sizes 9 16 (t .pairs) (t .offers) (t .k) (none-holds (figureChecks t) (sym figures ∙ passed) .0) in (f .columns-most, f .rows-most, mul-le-mul (f .columns-most) (f .rows-most))
+    -- no more offers and figures than the record has places for
+    pub places-held : (t .shape .offers ≤ offersMost) × (unitsOf (t .shape .design) ≤ pairsMost)
+    unfolding headingChecks
+    places-held =
+        let f = none-holds (headingChecks (t .level) (t .shape)) (sym heading ∙ passed) in
+        let l = none-append (designChecks (t .shape .design)) ((badLevel (t .level .a) (t .level .b), r3) ∷ []) (f .1) in
+        (fitting offersMost (t .shape .offers) (t .shape .k) (f .0) .columns-most, laid-out (t .shape .design) (l .0) .units-most)
 
-    module _ (o : ℕ) (offers : o ≡ firstRefusal (codeChecks t)) where
-      past-figures : trialRefusal t ≡ firstRefusal (codeChecks t ++ lastChecks t)
-      unfolding trialRefusal trialChecks
-      past-figures = first-passes (figureChecks t) (codeChecks t ++ lastChecks t) r figures passed
+    module _ (o : ℕ) (judged-offers : o ≡ firstRefusal (placesFrom (offerChecks (nth (t .labels .codes) 0) (nth (t .labels .digits) 0)) 0 (t .shape .offers))) where
+      offers : o ≡ firstRefusal (offersPart t)
+      offers = judged-offers ∙ ap firstRefusal (sym (offers-held t))
+
+      past-heading : trialRefusal t ≡ firstRefusal (offersPart t ++ figuresPart t)
+      unfolding trialRefusal trialChecks contentChecks
+      past-heading = first-passes (headingChecks (t .level) (t .shape)) (offersPart t ++ figuresPart t) r heading passed
 
       pub refusal-offers : (o ≡ 0 → ⊥) → o ≡ trialRefusal t
-      refusal-offers h = sym (past-figures ∙ first-decides (codeChecks t) (lastChecks t) o offers h)
+      refusal-offers h = sym (past-heading ∙ first-decides (offersPart t) (figuresPart t) o offers h)
 
-      pub refusal-differences : o ≡ 0 → (d : ℕ) → d ≡ firstRefusal (lastChecks t) → d ≡ trialRefusal t
-      refusal-differences h d e =
-          e
-          ∙ sym (past-figures ∙ first-passes (codeChecks t) (lastChecks t) o offers h)
+      pub refusal-figures : o ≡ 0 → (n d : ℕ) → n ≡ figureCount (t .shape) → d ≡ firstRefusal (placesFrom (figureChecks (nth (t .figures) (pos 0))) 0 n) → d ≡ trialRefusal t
+      refusal-figures h n d q e =
+          e ∙ ap (λ (m : ℕ). firstRefusal (placesFrom (figureChecks (nth (t .figures) (pos 0))) 0 m)) q ∙ ap firstRefusal (sym (figures-held t))
+          ∙ sym (past-heading ∙ first-passes (offersPart t) (figuresPart t) o offers h)

@@ -2,7 +2,8 @@
 use mathlib.Core.Path.{_≡_, refl}
 use mathlib.Core.List.{map}
 use Rattle.order.specs.Lists.{tabulate}
-use Rattle.trial.specs.Exchange.{signedSum, byOffer, rowTotal}
+use Rattle.trial.specs.Designs.{signedSum}
+use Rattle.trial.specs.Exchange.{byOffer, rowTotal}
 use Rattle.trial.specs.Refusals.{trialRefusal}
 use Rattle.trial.specs.Examples.{trialWith, trialW, sumsW, settings}
 

@@ -5,7 +5,7 @@ use native.Mathlib.Nat.{mod-lt}
 use mathlib.Core.Path.{_≡_, refl, sym, ap, ap₂, _∙_}
 use mathlib.Core.Bool.{Bool, true, false, not, cond}
 use mathlib.Core.List.{List, [], _∷_}
-use lib.ListN.{length}
+use lib.ListN.{length, getD}
 use lib.Dec.{T, ltb, eqb}
 use lib.Bits.{bitXor, xor-shr, xor-mod}
 use lib.IntN.{ℤ, pos, negsuc, natAbs, negℤ, subℕ, _+ℤ_, negℤ-negℤ}
@@ -16,9 +16,12 @@ use lib.Ieee.Fits.{ofInt-fits}
 use borrow.Author.Tests.{ltb-true}
 use Rattle.order.specs.Order.{finite}
 use Rattle.order.specs.Counting.{all}
-use Rattle.order.proofs.Booleans.{and-left, and-right, digit-cases}
-use Rattle.trial.specs.Exchange.{exchanged, signedSum}
+use Rattle.order.proofs.Booleans.{digit-cases}
+use Rattle.order.proofs.Counts.{all-getD}
+use Rattle.limits.specs.Limits.{differenceMost}
+use Rattle.trial.specs.Designs.{exchanged, signedSum, exchangedBy}
 use Rattle.trial.specs.Refusals.{badDifference}
+use Rattle.trial.specs.Internal.{Ranged}
 
 -- ---- magnitudes
 
@@ -35,32 +38,35 @@ abs-add (pos a) (negsuc b) = abs-sub a (suc b)
 abs-add (negsuc a) (pos b) = omega (arith, abs-sub b (suc a))
 abs-add (negsuc a) (negsuc b) = omega arith
 
-pub abs-neg : (a : ℤ) → natAbs (negℤ a) ≡ natAbs a
+abs-neg : (a : ℤ) → natAbs (negℤ a) ≡ natAbs a
 abs-neg (pos zero) = refl
 abs-neg (pos (suc n)) = refl
 abs-neg (negsuc n) = refl
 
-pub abs-exchanged : (b : Bool) (d : ℤ) → natAbs (exchanged b d) ≡ natAbs d
+abs-exchanged : (b : Bool) (d : ℤ) → natAbs (exchanged b d) ≡ natAbs d
 abs-exchanged true d = abs-neg d
 abs-exchanged false d = refl
 
 abbrev pub InRange : List ℤ → Type 0
 InRange ds = T (all (λ d. not (badDifference d)) ds)
 
-in-range : (d : ℤ) → T (not (badDifference d)) → natAbs d ≤ 134217727
+in-range : (d : ℤ) → T (not (badDifference d)) → natAbs d ≤ differenceMost
 unfolding badDifference
-in-range d t = lib.Dec.nltb→le 134217727 (natAbs d) t
+in-range d t = lib.Dec.nltb→le differenceMost (natAbs d) t
 
-pub signedSum-small : (g : ℕ) (ds : List ℤ) → InRange ds → natAbs (signedSum g ds) ≤ length ds * 134217727
-unfolding signedSum all
+pub all-in-range : (ds : List ℤ) → InRange ds → Ranged (length ds) ds
+all-in-range ds t i h = in-range (getD ds i (pos 0)) (all-getD (λ d. not (badDifference d)) ds i (pos 0) h t)
+
+pub signedSum-small : (g : ℕ) (ds : List ℤ) → Ranged (length ds) ds → natAbs (signedSum g ds) ≤ length ds * differenceMost
+unfolding signedSum
 signedSum-small g [] h = omega arith
 signedSum-small g (d ∷ ds) h =
     omega (
       arith,
       abs-add (exchanged (eqb (g % 2) 1) d) (signedSum (g / 2) ds),
       abs-exchanged (eqb (g % 2) 1) d,
-      in-range d (and-left (not (badDifference d)) (all (λ d. not (badDifference d)) ds) h),
-      signedSum-small (g / 2) ds (and-right (not (badDifference d)) (all (λ d. not (badDifference d)) ds) h),
+      h 0 (omega arith),
+      signedSum-small (g / 2) ds (λ i l. h (suc i) (omega arith)),
     )
 
 -- ---- as an f64
@@ -78,15 +84,10 @@ whole-finite (negsuc n) h = value-finite (ofInt binary64 (negsuc n)) true (suc n
 
 -- ---- exchanging twice
 
--- the differences, each exchanged where its bit of g is 1
-unfoldable pub flipped : ℕ → List ℤ → List ℤ
-flipped g [] = []
-flipped g (d ∷ ds) = exchanged (eqb (g % 2) 1) d ∷ flipped (g / 2) ds
-
-pub flipped-length : (g : ℕ) (ds : List ℤ) → length (flipped g ds) ≡ length ds
-unfolding flipped
-flipped-length g [] = refl
-flipped-length g (d ∷ ds) = ap suc (flipped-length (g / 2) ds)
+pub exchangedBy-length : (g : ℕ) (ds : List ℤ) → length (exchangedBy g ds) ≡ length ds
+unfolding exchangedBy
+exchangedBy-length g [] = refl
+exchangedBy-length g (d ∷ ds) = ap suc (exchangedBy-length (g / 2) ds)
 
 exchange-twice : (x y : ℕ) (d : ℤ) → x < 2 → y < 2 → exchanged (eqb x 1) (exchanged (eqb y 1) d) ≡ exchanged (eqb (bitXor x y) 1) d
 exchange-twice x y d h k =
@@ -94,9 +95,9 @@ exchange-twice x y d h k =
     (digit-cases (λ (b : ℕ). exchanged (eqb 0 1) (exchanged (eqb b 1) d) ≡ exchanged (eqb (bitXor 0 b) 1) d) refl refl y k)
     (digit-cases (λ (b : ℕ). exchanged (eqb 1 1) (exchanged (eqb b 1) d) ≡ exchanged (eqb (bitXor 1 b) 1) d) refl (negℤ-negℤ d) y k) x h
 
-pub signedSum-flipped : (h g : ℕ) (ds : List ℤ) → signedSum h (flipped g ds) ≡ signedSum (bitXor h g) ds
-unfolding signedSum flipped
-signedSum-flipped h g [] = refl
-signedSum-flipped h g (d ∷ ds) =
+pub signedSum-exchanged : (h g : ℕ) (ds : List ℤ) → signedSum h (exchangedBy g ds) ≡ signedSum (bitXor h g) ds
+unfolding signedSum exchangedBy
+signedSum-exchanged h g [] = refl
+signedSum-exchanged h g (d ∷ ds) =
     ap₂ _+ℤ_ (exchange-twice (h % 2) (g % 2) d (mod-lt h (omega arith)) (mod-lt g (omega arith)) ∙ ap (λ (n : ℕ). exchanged (eqb n 1) d) (sym (xor-mod h g 1)))
-    (signedSum-flipped (h / 2) (g / 2) ds ∙ ap (λ (n : ℕ). signedSum n ds) (sym (xor-shr h g 1)))
+    (signedSum-exchanged (h / 2) (g / 2) ds ∙ ap (λ (n : ℕ). signedSum n ds) (sym (xor-shr h g 1)))

@@ -1,33 +1,41 @@
 -- Laws of a trial's table: its rows.
 --   drop-take                        a part of a first part
---   sums-small, rowOf-all            the sums of a row are at most 2^53, and what holds of such sums holds of its values
+--   byOffer-figures                  the figures of each offer, in the array
+--   entries-small, rowOf-all         the entries of a row are at most 2^53, and what holds of such numbers holds of its values
 --   rowOf-.., trialRows-..           how long rows are, how many, which; those of an accepted trial are finite
 --   even-rows, tableOf-rows          the lent table has these rows
+--   tableOf-sums                     and is the table that the code fills
+--   figures-ranged                   the figures of an accepted trial are in range
 --   rowTotal-some                    there is a row
-use Prim.Native.Nat.{ℕ, zero, suc, _+_, _-_, _*_, _^_, _≤_, _<_}
+use Prim.Native.Nat.{ℕ, zero, suc, _+_, _*_, _^_, _≤_, _<_}
 use native.Mathlib.Omega.{arith}
 use native.Mathlib.Nat.{suc-mul}
 use native.Mathlib.Decide.{decLe}
-use mathlib.Core.Path.{_≡_, sym, ap, _∙_, subst}
+use mathlib.Core.Path.{_≡_, refl, sym, ap, ap₂, _∙_, subst}
 use mathlib.Core.Bool.{Bool, not, _&&_}
-use mathlib.Core.List.{List, [], _++_}
+use mathlib.Core.List.{List, [], _∷_, _++_, map}
 use lib.ListN.{length, getD, take, drop, length-map, length-append, length-take, drop-of-length-le}
-use lib.Seq.{drop-at, take-take, take-add, take-nil, length-take-le}
+use lib.Seq.{drop-at, take-take, take-add, take-nil, length-take-le, getD-take}
 use lib.Dec.{T, eqb, leb, eqb-refl, leb→le, le→leb}
-use lib.IntN.{ℤ, natAbs}
-use lib.Pow.{pow-pos}
+use lib.IntN.{ℤ, pos, natAbs}
 use lib.Ieee.{Float, binary64, ofInt}
 use Rattle.order.specs.Order.{finite}
 use Rattle.order.specs.Counting.{all}
-use Rattle.order.specs.Lists.{rowsOf, joined}
+use Rattle.order.specs.Lists.{tabulate, rowsOf, joined}
 use Rattle.order.proofs.Booleans.{and-both, and-left, and-right}
 use Rattle.order.proofs.Counts.{all-map, all-le}
 use Rattle.order.proofs.Lists.{tabulate-length, tabulate-getD, all-tabulate, all-take, all-drop, rowsOf-length, rowsOf-joined}
 use Rattle.order.proofs.Rows.{Sound, soundRow, sound-row}
-use Rattle.trial.specs.Exchange.{signedSum, byOffer, rowTotal, rowOf, trialRows, tableOf}
+use Rattle.limits.specs.Limits.{pairsMost, differenceMost}
+use Rattle.trial.specs.Designs.{unitsOf, rowCount, entryOf}
+use Rattle.trial.specs.Record.{figureCount, figuresOf}
+use Rattle.trial.specs.Exchange.{byOffer, rowTotal, rowOf, trialRows, tableOf}
 use Rattle.trial.specs.Refusals.{badDifference}
+use Rattle.trial.specs.Internal.{sumsTable, Ranged}
 use Rattle.trial.specs.declared.Trial.{Trial}
-use Rattle.trial.proofs.Sums.{InRange, signedSum-small, whole-finite}
+use Rattle.trial.specs.declared.Design.{Design}
+use Rattle.trial.proofs.Sums.{InRange, all-in-range, whole-finite}
+use Rattle.trial.proofs.LaidOut.{rowCount-some, table-pairs, entry-small}
 use Rattle.trial.proofs.Accepted.{Accepted}
 
 -- ---- differences, offer by offer
@@ -58,31 +66,55 @@ offers-ok (suc m) n xs h =
     rest : drop n (take (suc m * n) xs) ≡ take (m * n) (drop n xs)
     rest = ap (λ (i : ℕ). drop n (take i xs)) sum ∙ drop-take n (m * n) xs
 
+-- the figures that are used, offer by offer
+rowsOf-take : {A : Type 0} (m n : ℕ) (xs : List A) → rowsOf m n (take (m * n) xs) ≡ rowsOf m n xs
+unfolding rowsOf
+rowsOf-take zero n xs = refl
+rowsOf-take (suc m) n xs =
+    ap₂ (λ (r : List _) (rs : List (List _)). r ∷ rs) (take-take n (suc m * n) xs (omega (arith, suc-mul m n)))
+    (ap (rowsOf m n) (ap (λ (i : ℕ). drop n (take i xs)) sum ∙ drop-take n (m * n) xs) ∙ rowsOf-take m n (drop n xs))
+  where
+    sum : suc m * n ≡ n + m * n
+    sum = omega (arith, suc-mul m n)
+
+pub byOffer-figures : (t : Trial) → byOffer t ≡ rowsOf (t .shape .offers) (unitsOf (t .shape .design)) (t .figures)
+unfolding byOffer figureCount
+byOffer-figures t = rowsOf-take (t .shape .offers) (unitsOf (t .shape .design)) (t .figures)
+
+used-twice : (t : Trial) → take (t .shape .offers * unitsOf (t .shape .design)) (figuresOf t) ≡ figuresOf t
+unfolding figureCount
+used-twice t = take-take (figureCount (t .shape)) (figureCount (t .shape)) (t .figures) (omega arith)
+
 -- ---- the rows
 
-pub rowOf-length : (t : Trial) (g : ℕ) → length (rowOf t g) ≡ t .offers
+pub rowOf-length : (t : Trial) (g : ℕ) → length (rowOf t g) ≡ t .shape .offers
 unfolding rowOf byOffer
-rowOf-length t g = length-map (byOffer t) (λ ds. ofInt binary64 (signedSum g ds)) ∙ rowsOf-length (t .offers) (t .pairs) (t .differences)
+rowOf-length t g = length-map (byOffer t) (λ xs. ofInt binary64 (entryOf (t .shape .design) g xs)) ∙ rowsOf-length (t .shape .offers) (unitsOf (t .shape .design)) (figuresOf t)
 
-sum-small : (n g : ℕ) (ds : List ℤ) → n ≤ 9 → T (okOffer n ds) → natAbs (signedSum g ds) ≤ 2 ^ 53
+ok-small : (d : Design) (g : ℕ) (xs : List ℤ) → unitsOf d ≤ pairsMost → T (okOffer (unitsOf d) xs) → natAbs (entryOf d g xs) ≤ 2 ^ 53
 unfolding okOffer
-sum-small n g ds h t =
-    omega (arith, signedSum-small g ds (and-right (leb (length ds) n) (all (λ d. not (badDifference d)) ds) t), leb→le (length ds) n (and-left (leb (length ds) n) (all (λ d. not (badDifference d)) ds) t))
+ok-small d g xs h t =
+    let n = unitsOf d in
+    entry-small d g xs h (leb→le (length xs) n (and-left (leb (length xs) n) (all (λ d. not (badDifference d)) xs) t)) (and-right (leb (length xs) n) (all (λ d. not (badDifference d)) xs) t)
 
--- the sums of a row are small
-pub sums-small : (t : Trial) (g : ℕ) → Accepted t → T (all (λ ds. leb (natAbs (signedSum g ds)) (2 ^ 53)) (byOffer t))
+-- the entries of a row are small
+pub entries-small : (t : Trial) (g : ℕ) → Accepted t → T (all (λ xs. leb (natAbs (entryOf (t .shape .design) g xs)) (2 ^ 53)) (byOffer t))
 unfolding byOffer
-sums-small t g acc = all-le (okOffer (t .pairs)) (λ ds. leb (natAbs (signedSum g ds)) (2 ^ 53)) (byOffer t) (λ ds u. le→leb (natAbs (signedSum g ds)) (2 ^ 53) (sum-small (t .pairs) g ds (acc .pairs-most) u)) (offers-ok (t .offers) (t .pairs) (t .differences) (acc .in-range))
+entries-small t g acc =
+    let d = t .shape .design in
+    all-le (okOffer (unitsOf d)) (λ xs. leb (natAbs (entryOf d g xs)) (2 ^ 53)) (byOffer t) (λ xs u. le→leb (natAbs (entryOf d g xs)) (2 ^ 53) (ok-small d g xs (acc .laid .units-most) u))
+    (offers-ok (t .shape .offers) (unitsOf d) (figuresOf t) (subst (λ (l : List ℤ). InRange l) (sym (used-twice t)) (acc .in-range)))
 
 -- what holds of every whole number up to 2^53 as an f64 holds of a row's values
 pub rowOf-all : (p : Float → Bool) → ((z : ℤ) → natAbs z ≤ 2 ^ 53 → T (p (ofInt binary64 z))) → (t : Trial) (g : ℕ) → Accepted t → T (all p (rowOf t g))
 unfolding rowOf
 rowOf-all p h t g acc =
-    rw (all-map (λ ds. ofInt binary64 (signedSum g ds)) p (byOffer t))
-    (all-le (λ ds. leb (natAbs (signedSum g ds)) (2 ^ 53)) (λ ds. p (ofInt binary64 (signedSum g ds))) (byOffer t) (λ ds u. h (signedSum g ds) (leb→le (natAbs (signedSum g ds)) (2 ^ 53) u)) (sums-small t g acc))
+    let f = entryOf (t .shape .design) g in
+    rw (all-map (λ xs. ofInt binary64 (f xs)) p (byOffer t))
+    (all-le (λ xs. leb (natAbs (f xs)) (2 ^ 53)) (λ xs. p (ofInt binary64 (f xs))) (byOffer t) (λ xs u. h (f xs) (leb→le (natAbs (f xs)) (2 ^ 53) u)) (entries-small t g acc))
 
-pub rowOf-sound : (t : Trial) (g : ℕ) → Accepted t → T (soundRow (t .offers) (rowOf t g))
-rowOf-sound t g acc = sound-row (t .offers) (rowOf t g) (rowOf-length t g) (rowOf-all finite whole-finite t g acc)
+pub rowOf-sound : (t : Trial) (g : ℕ) → Accepted t → T (soundRow (t .shape .offers) (rowOf t g))
+rowOf-sound t g acc = sound-row (t .shape .offers) (rowOf t g) (rowOf-length t g) (rowOf-all finite whole-finite t g acc)
 
 pub trialRows-length : (t : Trial) → length (trialRows t) ≡ rowTotal t
 unfolding trialRows
@@ -92,21 +124,36 @@ pub trialRows-row : (t : Trial) (g : ℕ) → g < rowTotal t → getD (trialRows
 unfolding trialRows
 trialRows-row t g h = tabulate-getD (rowTotal t) (λ g. rowOf t g) g [] h
 
-pub trialRows-sound : (t : Trial) → Accepted t → Sound (t .offers) (trialRows t)
+pub trialRows-sound : (t : Trial) → Accepted t → Sound (t .shape .offers) (trialRows t)
 unfolding trialRows
-trialRows-sound t acc = all-tabulate (soundRow (t .offers)) (rowTotal t) (λ g. rowOf t g) (λ g. rowOf-sound t g acc)
+trialRows-sound t acc = all-tabulate (soundRow (t .shape .offers)) (rowTotal t) (λ g. rowOf t g) (λ g. rowOf-sound t g acc)
 
-pub even-rows : (t : Trial) → T (all (λ r. eqb (length r) (t .offers)) (trialRows t))
+pub even-rows : (t : Trial) → T (all (λ r. eqb (length r) (t .shape .offers)) (trialRows t))
 unfolding trialRows
-even-rows t = all-tabulate (λ r. eqb (length r) (t .offers)) (rowTotal t) (λ g. rowOf t g) (λ g. subst (λ (n : ℕ). T (eqb n (t .offers))) (sym (rowOf-length t g)) (eqb-refl (t .offers)))
+even-rows t = all-tabulate (λ r. eqb (length r) (t .shape .offers)) (rowTotal t) (λ g. rowOf t g) (λ g. subst (λ (n : ℕ). T (eqb n (t .shape .offers))) (sym (rowOf-length t g)) (eqb-refl (t .shape .offers)))
 
 -- the lent table has these rows
-pub tableOf-rows : (t : Trial) → rowsOf (rowTotal t) (t .offers) (tableOf t) ≡ trialRows t
+pub tableOf-rows : (t : Trial) → rowsOf (rowTotal t) (t .shape .offers) (tableOf t) ≡ trialRows t
 unfolding tableOf
 tableOf-rows t =
-    ap (λ (m : ℕ). rowsOf m (t .offers) (joined (trialRows t))) (sym (trialRows-length t))
-    ∙ rowsOf-joined (t .offers) (trialRows t) (even-rows t)
+    ap (λ (m : ℕ). rowsOf m (t .shape .offers) (joined (trialRows t))) (sym (trialRows-length t))
+    ∙ rowsOf-joined (t .shape .offers) (trialRows t) (even-rows t)
 
 pub rowTotal-some : (t : Trial) → 0 < rowTotal t
 unfolding rowTotal
-rowTotal-some t = pow-pos (t .pairs)
+rowTotal-some t = rowCount-some (t .shape .design)
+
+-- ---- what the code fills
+
+pub tableOf-sums : (t : Trial) → tableOf t ≡ sumsTable (unitsOf (t .shape .design)) (t .shape .offers) (t .figures)
+unfolding tableOf trialRows rowTotal rowOf
+tableOf-sums t =
+    let d = t .shape .design in
+    ap (λ (os : List (List ℤ)). joined (tabulate (rowCount d) (λ g. map (λ x. ofInt binary64 (entryOf d g x)) os))) (byOffer-figures t) ∙ table-pairs d (t .shape .offers) (t .figures)
+
+pub figures-ranged : (t : Trial) → Accepted t → t .shape .offers * unitsOf (t .shape .design) ≤ length (t .figures) → Ranged (t .shape .offers * unitsOf (t .shape .design)) (t .figures)
+unfolding figureCount
+figures-ranged t acc h i k =
+    let n = t .shape .offers * unitsOf (t .shape .design) in
+    let l = length-take-le n (t .figures) h in
+    subst (λ (z : ℤ). natAbs z ≤ differenceMost) (getD-take n (t .figures) i (pos 0) k) (all-in-range (figuresOf t) (acc .in-range) i (omega arith))

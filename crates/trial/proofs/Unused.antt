@@ -1,82 +1,87 @@
--- Places that the counts of a record don't use change nothing: two records that agree on the others have the same
+-- Places that the counts of a record don't use change nothing: every definition is one of the contents, and two records of the same trial have the same
+--   contents-filled, same-trimmed    a record holds the contents that it is filled with; a trial with zero in its unused places is the same trial
 --   checks-same, refusal-same        checks, and the refusal that comes of them
 --   table-same, rows-same            table
 --   size-same                        size
 --   call-same, buffer-same           answer of a call for the table, and buffer after it
-use Prim.Native.Nat.{ℕ, zero, suc, _+_, _*_, _^_}
+use Prim.Native.Nat.{ℕ, _-_, _*_}
 use native.Mathlib.Omega.{arith}
-use native.Mathlib.Nat.{suc-mul}
 use mathlib.Core.Path.{_≡_, refl, sym, ap, ap₂, _∙_}
-use mathlib.Core.List.{List, _∷_, _++_, map}
-use lib.ListN.{length, take, drop}
-use lib.Seq.{take-take}
-use lib.IntN.{ℤ}
+use mathlib.Core.List.{List, _++_, map}
+use lib.ListN.{length, take, replicate}
+use lib.Seq.{take-at, length-take-le}
+use lib.IntN.{pos}
 use lib.Ieee.{Float, binary64, ofInt}
-use Rattle.order.specs.Lists.{tabulate, rowsOf, joined}
+use Rattle.limits.specs.Limits.{offersMost, figuresMost}
+use Rattle.order.specs.Lists.{tabulate, rowsOf, joined, padded}
 use Rattle.refusals.specs.Answers.{Checks, answer, firstRefusal, afterwards}
 use Rattle.refusals.specs.Buffers.{tooShort, written}
-use Rattle.trial.specs.Exchange.{signedSum, byOffer, rowTotal, rowOf, trialRows, tableOf}
-use Rattle.trial.specs.Refusals.{trialChecks, trialRefusal}
+use Rattle.trial.specs.Designs.{unitsOf, rowCount, entryOf}
+use Rattle.trial.specs.Record.{ArrayLengths, figureCount, Contents, contents, filled, trimmed, Same}
+use Rattle.trial.specs.Exchange.{byOffer, rowTotal, rowOf, trialRows, tableOf}
+use Rattle.trial.specs.Refusals.{contentChecks, trialChecks, trialRefusal}
 use Rattle.trial.specs.Lent.{sizeOf, tableCallChecks, tableCallRefusal, tableBuffer}
-use Rattle.trial.specs.Used.{SameUsed}
 use Rattle.trial.specs.declared.Trial.{Trial}
-use Rattle.trial.specs.declared.TableSize.{TableSize}
-use Rattle.trial.proofs.Tables.{drop-take}
+use Rattle.trial.proofs.LaidOut.{count-most}
+use Rattle.trial.proofs.Accepted.{accepted}
 
--- m rows of n members are made of the first m * n members
-rowsOf-take : {A : Type 0} (m n : ℕ) (xs : List A) → rowsOf m n (take (m * n) xs) ≡ rowsOf m n xs
-unfolding rowsOf
-rowsOf-take zero n xs = refl
-rowsOf-take (suc m) n xs =
-    ap₂ (λ (r : List _) (rs : List (List _)). r ∷ rs) (take-take n (suc m * n) xs (omega (arith, suc-mul m n)))
-    (ap (rowsOf m n) (ap (λ (i : ℕ). drop n (take i xs)) sum ∙ drop-take n (m * n) xs) ∙ rowsOf-take m n (drop n xs))
-  where
-    sum : suc m * n ≡ n + m * n
-    sum = omega (arith, suc-mul m n)
+-- the table of contents
+tableFrom : Contents → List Float
+unfolding joined tabulate rowsOf
+tableFrom c =
+    let s = c .setting .shape in
+    joined (tabulate (rowCount (s .design)) (λ g. map (λ xs. ofInt binary64 (entryOf (s .design) g xs)) (rowsOf (s .offers) (unitsOf (s .design)) (c .figures))))
 
--- a table by its pairs and the differences of each offer
-entriesOf : ℕ → List (List ℤ) → List Float
-unfolding joined tabulate
-entriesOf n ds = joined (tabulate (2 ^ n) (λ g. map (λ d. ofInt binary64 (signedSum g d)) ds))
+tableOf-contents : (t : Trial) → tableOf t ≡ tableFrom (contents t)
+unfolding tableOf trialRows rowTotal rowOf byOffer tableFrom
+tableOf-contents t = refl
 
-tableOf-entries : (t : Trial) → tableOf t ≡ entriesOf (t .pairs) (byOffer t)
-unfolding tableOf trialRows rowTotal rowOf entriesOf
-tableOf-entries t = refl
+-- a record holds the contents that it is filled with
+padded-take : {A : Type 0} (n m : ℕ) (d : A) (xs : List A) → length xs ≡ m → take m (padded n d xs) ≡ xs
+padded-take n m d xs l = take-at xs (replicate (n - length xs) d) m l
 
-module _ (t u : Trial) (s : SameUsed t u) where
+pub contents-filled : (c : Contents) → let s = c .setting .shape in
+    length (c .setting .codes) ≡ s .offers → length (c .setting .digits) ≡ s .offers → length (c .figures) ≡ figureCount s → contents (filled c) ≡ c
+contents-filled c h k l =
+    let s = c .setting .shape in
+    rw (padded-take offersMost (s .offers) 0 (c .setting .codes) h, padded-take offersMost (s .offers) 0 (c .setting .digits) k, padded-take figuresMost (figureCount s) (pos 0) (c .figures) l)
+
+-- so a trial is the same trial with its unused places zero
+pub same-trimmed : (t : Trial) → ArrayLengths t → trialRefusal t ≡ 0 → Same t (trimmed t)
+unfolding trimmed figureCount
+same-trimmed t ty h =
+    let acc = accepted t h in
+    let n = t .shape .offers in
+    sym (contents-filled (contents t)
+    (length-take-le n (t .labels .codes) (omega (arith, ty .codes-length, acc .offers-most))) (length-take-le n (t .labels .digits) (omega (arith, ty .digits-length, acc .offers-most)))
+    (length-take-le (figureCount (t .shape)) (t .figures) (omega (arith, ty .figures-length, count-most (t .shape) (unitsOf (t .shape .design)) (acc .offers-most) (acc .laid .units-most) refl))))
+
+module _ (t u : Trial) (s : Same t u) where
+  pub offers-same : t .shape .offers ≡ u .shape .offers
+  offers-same = ap (λ (c : Contents). c .setting .shape .offers) s
+
   pub checks-same : trialChecks t ≡ trialChecks u
   unfolding trialChecks
-  checks-same = rw (s .codes-same, s .digits-same, s .differences-same, s .a-same, s .b-same, s .k-same, s .offers-same, s .pairs-same)
+  checks-same = ap contentChecks s
 
   pub refusal-same : trialRefusal t ≡ trialRefusal u
   unfolding trialRefusal
   refusal-same = ap firstRefusal checks-same
 
-  byOffer-same : byOffer t ≡ byOffer u
-  unfolding byOffer
-  byOffer-same =
-      sym (rowsOf-take (t .offers) (t .pairs) (t .differences))
-      ∙ ap (rowsOf (t .offers) (t .pairs)) (s .differences-same)
-      ∙ rowsOf-take (t .offers) (t .pairs) (u .differences)
-      ∙ ap₂ (λ (m n : ℕ). rowsOf m n (u .differences)) (s .offers-same) (s .pairs-same)
-
   pub table-same : tableOf t ≡ tableOf u
-  table-same = tableOf-entries t ∙ ap₂ entriesOf (s .pairs-same) byOffer-same ∙ sym (tableOf-entries u)
+  table-same = tableOf-contents t ∙ ap tableFrom s ∙ sym (tableOf-contents u)
 
   pub rows-same : rowTotal t ≡ rowTotal u
   unfolding rowTotal
-  rows-same = ap (λ (n : ℕ). 2 ^ n) (s .pairs-same)
+  rows-same = ap (λ (c : Contents). rowCount (c .setting .shape .design)) s
 
   pub size-same : sizeOf t ≡ sizeOf u
-  unfolding sizeOf
-  size-same = ap₂ (λ (cs : Checks) (m : ℕ). sizeBy cs m (t .offers)) checks-same rows-same ∙ ap (sizeBy (trialChecks u) (rowTotal u)) (s .offers-same)
-    where
-      sizeBy : Checks → ℕ → ℕ → TableSize
-      sizeBy cs m n = answer cs (record { refusal = 0; rows = m; columns = n }) (λ r. record { refusal = r; rows = 0; columns = 0 })
+  unfolding sizeOf rowTotal trialChecks
+  size-same = ap (λ (c : Contents). answer (contentChecks c) (record { refusal = 0; rows = rowCount (c .setting .shape .design); columns = c .setting .shape .offers }) (λ r. record { refusal = r; rows = 0; columns = 0 })) s
 
   calls-same : (places : ℕ) → tableCallChecks t places ≡ tableCallChecks u places
   unfolding tableCallChecks
-  calls-same places = ap₂ (λ (cs : Checks) (n : ℕ). cs ++ tooShort places n) checks-same (ap₂ _*_ rows-same (s .offers-same))
+  calls-same places = ap₂ (λ (cs : Checks) (n : ℕ). cs ++ tooShort places n) checks-same (ap₂ _*_ rows-same offers-same)
 
   pub call-same : (places : ℕ) → tableCallRefusal t places ≡ tableCallRefusal u places
   unfolding tableCallRefusal

@@ -7,18 +7,15 @@ use Prim.Native.Nat.{ℕ}
 use mathlib.Core.List.{List, [], _∷_}
 use lib.ListN.{replicate}
 use lib.IntN.{ℤ, pos, negsuc}
+use Rattle.trial.specs.declared.Design.the-variants.{Paired}
 use Rattle.trial.specs.declared.Trial.{Trial}
 
 abbrev pub trialWith : ℕ → ℕ → ℕ → Trial
 trialWith a b k = record {
-  a = a;
-  b = b;
-  k = k;
-  offers = 2;
-  pairs = 3;
-  codes = 42 ∷ 7 ∷ replicate 14 0;
-  digits = 4 ∷ 1 ∷ replicate 14 0;
-  differences = pos 5 ∷ pos 3 ∷ pos 4 ∷ pos 2 ∷ negsuc 0 ∷ pos 1 ∷ replicate 138 (pos 0);
+  level = record { a = a; b = b };
+  shape = record { k = k; offers = 2; design = Paired 3 };
+  labels = record { codes = 42 ∷ 7 ∷ replicate 14 0; digits = 4 ∷ 1 ∷ replicate 14 0 };
+  figures = pos 5 ∷ pos 3 ∷ pos 4 ∷ pos 2 ∷ negsuc 0 ∷ pos 1 ∷ replicate 138 (pos 0);
 }
 
 unfoldable pub trialW : Trial

@@ -16,11 +16,11 @@ use Rattle.trial.specs.declared.Trial.{Trial}
 
 unfoldable pub sizeOf : Trial → TableSize
 unfolding answer trialChecks rowTotal
-sizeOf t = answer (trialChecks t) (record { refusal = 0; rows = rowTotal t; columns = t .offers }) (λ n. record { refusal = n; rows = 0; columns = 0 })
+sizeOf t = answer (trialChecks t) (record { refusal = 0; rows = rowTotal t; columns = t .shape .offers }) (λ n. record { refusal = n; rows = 0; columns = 0 })
 
 unfoldable pub tableCallChecks : Trial → ℕ → Checks
 unfolding trialChecks rowTotal
-tableCallChecks t places = trialChecks t ++ tooShort places (rowTotal t * t .offers)
+tableCallChecks t places = trialChecks t ++ tooShort places (rowTotal t * t .shape .offers)
 
 unfoldable pub tableCallRefusal : Trial → ℕ → ℕ
 unfolding firstRefusal tableCallChecks

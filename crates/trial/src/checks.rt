@@ -1,12 +1,18 @@
 // The conditions of refusals 4 to 7, in the words of specs/Refusals.
+use crate::Level;
+use crate::Shape;
+use crate::designs;
+use limits::DIFFERENCE_LEAST;
+use limits::DIFFERENCE_MOST;
+use limits::DIGITS_MOST;
+use limits::OFFERS_MOST;
 ghost use mathlib.Core.Path.{_≡_};
 ghost use mathlib.Core.Bool.{cond};
-ghost use mathlib.Core.List.{[]};
 ghost use Prim.Native.Nat.{_≤_};
-ghost use lib.ListN.{take};
-ghost use Rattle.refusals.specs.Answers.{firstRefusal};
-ghost use Rattle.trial.specs.Refusals.{badCounts, badDigits, among, badDifference, offerChecks, differenceChecks};
-ghost use Rattle.trial.specs.Internal.{earlierOf};
+ghost use lib.ListN.{length};
+ghost use lib.IntN.{pos};
+ghost use Rattle.refusals.specs.Answers.{placesFrom, firstRefusal};
+ghost use Rattle.trial.specs.Refusals.{badDigits, among, badDifference, headingChecks, earlier, offerChecks, figureChecks, nth};
 
 // A power of ten for each number of printed digits: the first number that has more.
 const LIMITS: [u32; 8] = [1, 10, 100, 1000, 10000, 100000, 1000000, 10000000];
@@ -21,27 +27,36 @@ pub fn first_of(holds: bool, number: u32, after: u32) -> u32
     after
 }
 
-// The condition of 4.
-pub fn bad_counts(k: usize, offers: usize, pairs: usize) -> bool
-    ensures { λ r. ⌜ r ≡ badCounts k offers pairs ⌝ }
+// The refusal of a trial's shape, its layout and its level: 4, then what the layout adds, then 3.
+pub(crate) fn heading(level: Level, shape: Shape) -> u32
+    ensures { λ r. ⌜ r ≡ firstRefusal (headingChecks level shape) ⌝ }
 {
-    refusals::bad_sizes(9, 16, pairs, offers, k)
+    if refusals::bad_columns(OFFERS_MOST, shape.offers, shape.k) {
+        return 4;
+    }
+    let design = shape.design;
+    let laid = designs::design_refusal(design);
+    if laid != 0 {
+        return laid;
+    }
+    let bad = refusals::bad_level(level.a, level.b);
+    first_of(bad, 3, 0)
 }
 
 // The condition of 5.
 pub fn bad_digits(code: u32, digits: usize) -> bool
     ensures { λ r. ⌜ r ≡ badDigits code digits ⌝ }
 {
-    if refusals::outside(1, 7, digits) {
+    if refusals::outside(1, DIGITS_MOST, digits) {
         return true;
     }
     LIMITS[digits] <= code
 }
 
 // The condition of 6: the code is one of the first i codes.
-fn earlier(codes: [u32; 16], i: usize, code: u32) -> bool
-    requires { ⌜ i ≤ 16 ⌝ }
-    ensures { λ r. ⌜ r ≡ among code (earlierOf i codes) ⌝ }
+fn earlier(codes: &[u32], i: usize, code: u32) -> bool
+    requires { ⌜ i ≤ length (now codes) ⌝ }
+    ensures { λ r. ⌜ r ≡ among code (earlier (nth (now (codes .entry)) 0) i) ⌝ }
 {
     let mut j = i;
     while 0 < j {
@@ -53,15 +68,22 @@ fn earlier(codes: [u32; 16], i: usize, code: u32) -> bool
     false
 }
 
+// A byte as a number.
+fn wide(x: u8) -> usize
+    ensures { λ r. ⌜ r ≡ x ⌝ }
+{
+    x as usize
+}
+
 // The first refusal among the offers, 5 before 6 at each.
-pub(crate) fn offers(codes: [u32; 16], digits: [u8; 16], n: usize) -> u32
-    requires { ⌜ n ≤ 16 ⌝ }
-    ensures { λ r. ⌜ r ≡ firstRefusal (offerChecks [] (take n codes) (take n digits)) ⌝ }
+pub(crate) fn offers(codes: &[u32], digits: &[u8], n: usize) -> u32
+    requires { ⌜ (n ≤ length (now codes)) × (n ≤ length (now digits)) ⌝ }
+    ensures { λ r. ⌜ r ≡ firstRefusal (placesFrom (offerChecks (nth (now (codes .entry)) 0) (nth (now (digits .entry)) 0)) 0 n) ⌝ }
 {
     let mut i: usize = 0;
     while i < n {
         let code = codes[i];
-        let misprinted = bad_digits(code, digits[i] as usize);
+        let misprinted = bad_digits(code, wide(digits[i]));
         let repeated = earlier(codes, i, code);
         let six = first_of(repeated, 6, 0);
         let r = first_of(misprinted, 5, six);
@@ -77,21 +99,23 @@ pub(crate) fn offers(codes: [u32; 16], digits: [u8; 16], n: usize) -> u32
 pub fn bad_difference(d: i32) -> bool
     ensures { λ r. ⌜ r ≡ badDifference d ⌝ }
 {
-    if d < -134217727 {
+    if d < DIFFERENCE_LEAST {
         return true;
     }
-    134217727 < d
+    DIFFERENCE_MOST < d
 }
 
-// The first refusal among the first n differences.
-pub(crate) fn differences(ds: [i32; 144], n: usize) -> u32
-    requires { ⌜ n ≤ 144 ⌝ }
-    ensures { λ r. ⌜ r ≡ firstRefusal (differenceChecks (take n ds)) ⌝ }
+// The first refusal among the first n figures.
+pub(crate) fn figures(xs: &[i32], n: usize) -> u32
+    requires { ⌜ n ≤ length (now xs) ⌝ }
+    ensures { λ r. ⌜ r ≡ firstRefusal (placesFrom (figureChecks (nth (now (xs .entry)) (pos 0))) 0 n) ⌝ }
 {
     let mut i: usize = 0;
     while i < n {
-        if bad_difference(ds[i]) {
-            return 7;
+        let bad = bad_difference(xs[i]);
+        let r = first_of(bad, 7, 0);
+        if r != 0 {
+            return r;
         }
         i += 1;
     }

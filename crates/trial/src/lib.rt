@@ -1,29 +1,53 @@
-// A trial of offers in paired shops: its record, its checks, its table.
+// A trial of offers in shops: its record, its checks, its table.
 // The definitions are in specs/, their laws in proofs/.
 mod checks; // the conditions of refusals
-mod entries; // the table, place by place
+mod designs; // how a trial was laid out: all that goes by its cases
+mod entries; // the table, by doubling
 
 // Conditions that a file's values are judged by too.
-pub use checks::bad_counts;
 pub use checks::bad_difference;
 pub use checks::bad_digits;
 pub use checks::first_of;
+pub use designs::design_refusal;
+pub use designs::units;
+use limits::FIGURES_MOST;
+use limits::OFFERS_MOST;
 ghost use mathlib.Core.Path.{_≡_};
 ghost use lib.ListN.{length};
 ghost use Rattle.trial.specs.Refusals.{trialRefusal};
 ghost use Rattle.trial.specs.Lent.{sizeOf, tableCallRefusal, tableBuffer};
 
-// A trial, by value. The level is a/b as written. `codes` and `digits` hold each offer's number and how many digits are printed;
-// the difference of offer i and pair j (both from 0) stands at i * pairs + j. Places that the counts don't use are never looked at.
-pub struct Trial {
+// The level a/b, as written.
+pub struct Level {
     pub a: usize,
     pub b: usize,
+}
+
+// How a trial was laid out: in so many pairs.
+pub enum Design {
+    Paired(usize),
+}
+
+// The tolerance k, how many offers there are, and how the trial was laid out.
+pub struct Shape {
     pub k: usize,
     pub offers: usize,
-    pub pairs: usize,
-    pub codes: [u32; 16],
-    pub digits: [u8; 16],
-    pub differences: [i32; 144],
+    pub design: Design,
+}
+
+// Each offer's number, and how many digits of it are printed.
+pub struct Labels {
+    pub codes: [u32; OFFERS_MOST],
+    pub digits: [u8; OFFERS_MOST],
+}
+
+// A trial, by value. Figures stand offer by offer: those of a paired trial are the differences of its pairs.
+// Places that the shape doesn't use are never looked at.
+pub struct Trial {
+    pub level: Level,
+    pub shape: Shape,
+    pub labels: Labels,
+    pub figures: [i32; FIGURES_MOST],
 }
 
 // The size of a trial's table with the refusal 0, or the number of the refusal with 0 rows and 0 columns.
@@ -37,24 +61,25 @@ pub struct TableSize {
 pub fn check(t: Trial) -> u32
     ensures { λ r. ⌜ r ≡ trialRefusal t ⌝ }
 {
-    let counts = checks::bad_counts(t.k, t.offers, t.pairs);
-    let level = refusals::bad_level(t.a, t.b);
-    let three = checks::first_of(level, 3, 0);
-    let f = checks::first_of(counts, 4, three);
+    let level = t.level;
+    let shape = t.shape;
+    let f = checks::heading(level, shape);
     if f != 0 {
         return f;
     }
-    let codes = t.codes;
-    let digits = t.digits;
-    let r = checks::offers(codes, digits, t.offers);
+    let labels = t.labels;
+    let codes = labels.codes;
+    let digits = labels.digits;
+    let r = checks::offers(&codes, &digits, shape.offers);
     if r != 0 {
         return r;
     }
-    let differences = t.differences;
-    checks::differences(differences, t.offers * t.pairs)
+    let figures = t.figures;
+    let n = designs::figure_count(shape);
+    checks::figures(&figures, n)
 }
 
-// The size of a trial's table: 2 ^ pairs rows, and a column for each offer.
+// The size of a trial's table: M rows, and a column for each offer.
 pub fn size(t: Trial) -> TableSize
     ensures { λ r. ⌜ r ≡ sizeOf t ⌝ }
 {
@@ -66,10 +91,12 @@ pub fn size(t: Trial) -> TableSize
             columns: 0,
         };
     }
+    let shape = t.shape;
+    let design = shape.design;
     TableSize {
         refusal: 0,
-        rows: entries::rows(t.pairs),
-        columns: t.offers,
+        rows: designs::rows(design),
+        columns: shape.offers,
     }
 }
 
@@ -78,14 +105,17 @@ pub fn table(t: Trial, out: &mut [f64]) -> u32
     ensures { λ r. ⌜ r ≡ tableCallRefusal t (length (now (out .entry))) ⌝ }
     ensures { λ r. ⌜ now (out .exit) ≡ tableBuffer t (now (out .entry)) ⌝ }
 {
-    let r = check(t);
-    if r != 0 {
-        return r;
+    let s = size(t);
+    if s.refusal != 0 {
+        return s.refusal;
     }
-    let total = entries::rows(t.pairs) * t.offers;
+    let total = s.rows * s.columns;
     if out.len() < total {
         return 12;
     }
-    entries::fill(t, out, total);
+    let shape = t.shape;
+    let design = shape.design;
+    let figures = t.figures;
+    entries::fill(&figures, s.columns, designs::units(design), out);
     0
 }

@@ -1,7 +1,7 @@
 -- Examples: W's file is written and read as document 01 prints it; which refusals some other files meet.
 use mathlib.Core.Path.{_≡_, refl}
 use Rattle.trial.specs.Examples.{trialW}
-use Rattle.trialfile.specs.Words.{bytesOf, signed, bitsOf}
+use Rattle.words.specs.Words.{bytesOf, signed, bitsOf}
 use Rattle.trialfile.specs.Files.{fileRefusal, readingOf}
 use Rattle.trialfile.specs.Writings.{fileOf}
 use Rattle.trialfile.specs.Examples.{wordsW, wordsTwice, wordsSurplus, wordsAfter}

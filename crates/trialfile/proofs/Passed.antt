@@ -1,169 +1,171 @@
 -- What the words of an accepted file are known to be.
 --   Passed, passed       what holds at each place
 --   words-many           how many words there are
+--   contents-read        the contents of their trial
 --   trial-accepted       their trial is accepted
 --   trial-lengths        its arrays have their lengths
 --   words-again          the trial makes the same words
 --   file-passed          an accepted file has a good length, and its words pass
 use Prim.Native.Nat.{ℕ, _+_, _-_, _*_, _%_, _≤_, _<_}
 use native.Mathlib.Omega.{arith}
-use mathlib.Core.Path.{_≡_, refl, ap, ap₂, _∙_}
+use native.Mathlib.Decide.{decLt}
+use mathlib.Core.Path.{_≡_, refl, sym, ap, ap₂, _∙_, subst}
 use mathlib.Core.Bool.{false, not, _||_}
-use mathlib.Core.List.{List, [], _∷_, _++_, map, zipWith}
-use lib.ListN.{length, take, drop, replicate, length-map, length-drop, take-append-drop}
-use lib.Seq.{take-at, length-take-le}
+use mathlib.Core.List.{List, [], _∷_, _++_}
+use lib.ListN.{length, getD, take, replicate, List·getD-eq-default}
+use lib.Seq.{take-at, ext-getD}
 use lib.Dec.{ltb, eqb}
-use lib.IntN.{pos}
+use lib.IntN.{ℤ, pos}
 use borrow.Author.Tests.{ltb-false, eqb-true, not-false}
-use Rattle.order.specs.Lists.{padded}
-use Rattle.order.proofs.Lists.{padded-length}
-use Rattle.refusals.specs.Limits.{badLevel}
+use Rattle.limits.specs.Limits.{offersMost, pairsMost, figuresMost, longestFile}
+use Rattle.order.specs.Lists.{tabulate, padded}
+use Rattle.order.proofs.Lists.{tabulate-length, tabulate-getD, padded-length}
+use Rattle.refusals.specs.Answers.{r3, Checks, placesFrom}
+use Rattle.refusals.specs.Limits.{badColumns, badLevel}
 use Rattle.refusals.proofs.Answers.{NoneHolds, none-holds, none-first, none-append, none-join}
-use Rattle.refusals.proofs.Limits.{or-none}
-use Rattle.trial.specs.Record.{ArrayLengths}
-use Rattle.trial.specs.Refusals.{badCounts, offerChecks, differenceChecks, trialChecks, trialRefusal}
-use Rattle.trial.proofs.Accepted.{accepted}
-use Rattle.trialfile.specs.Words.{wordsOf, word, kindOf, aOf, bOf, unusedOf, kOf, offersOf, pairsOf, digitsOf, codeOf, differenceOf, countOf, offerWord, differenceWord}
-use Rattle.trialfile.specs.Files.{trialOf, wordsBefore, longest, badLength, offerPlaces, differencePlaces, endPlace, placeChecks, fileChecks, fileRefusal}
-use Rattle.trialfile.specs.Writings.{fileWords}
-use Rattle.trialfile.proofs.Fields.{level-again, shape-again, end-again}
-use Rattle.trialfile.proofs.Parts.{product-most}
-use Rattle.trialfile.proofs.Places.{right-kind, offers-accepted, offers-again, differences-accepted, differences-again}
+use Rattle.refusals.proofs.Places.{places-each, places-none}
+use Rattle.refusals.proofs.Limits.{or-none, fitting}
+use Rattle.trial.specs.Designs.{designChecks, unitsOf}
+use Rattle.trial.specs.Record.{ArrayLengths, figureCount, Contents, contents, filled}
+use Rattle.trial.specs.Refusals.{badDifference, headingChecks, offerChecks, figureChecks, nth, contentChecks, trialChecks, trialRefusal}
+use Rattle.trial.specs.declared.Shape.{Shape}
+use Rattle.trial.proofs.Conditions.{offer-same}
+use Rattle.trial.proofs.LaidOut.{laid-out}
+use Rattle.trial.proofs.Unused.{contents-filled}
+use Rattle.words.specs.Words.{wordsOf, word, kindOf, unusedOf, kOf, offersOf, countOf, offerWord, differenceWord}
+use Rattle.trialfile.specs.Layouts.{levelAt, shapeAt, layoutOf, offerAt, figureAt, wordTotal}
+use Rattle.words.specs.Words.{levelIn, shapeIn}
+use Rattle.trialfile.specs.Files.{codeIn, digitsIn, figureIn, contentsIn, trialOf, badLength, otherKind, levelPlace, shapePlace, offerPlace, figurePlace, endPlace, bodyPlaces, placeChecks, fileChecks, fileRefusal}
+use Rattle.trialfile.specs.Writings.{contentWords, fileWords}
+use Rattle.trialfile.specs.declared.layout.Layout.{Layout}
+use Rattle.words.proofs.Fields.{level-again, shape-again, offer-again, difference-again, end-again}
+use Rattle.trialfile.proofs.Layouts.{count-most, place-cases}
+use Rattle.trialfile.proofs.FileWords.{words-length, word-level, word-shape, word-offer, word-figure, word-end}
 
--- ---- padding
-
-padded-take : {A : Type 0} (n m : ℕ) (d : A) (xs : List A) → length xs ≡ m → take m (padded n d xs) ≡ xs
-padded-take n m d xs l = take-at xs (replicate (n - length xs) d) m l
-
--- ---- part by part
-
--- two words that are there, and the rest
-two-words : (ws : List ℕ) → 2 ≤ length ws → word ws 0 ∷ word ws 1 ∷ drop 2 ws ≡ ws
-two-words [] h = absurd (omega arith)
-two-words (w ∷ []) h = absurd (omega arith)
-two-words (v ∷ w ∷ ws) h = refl
+pub right-kind : (kind w : ℕ) → otherKind kind w ≡ false → kindOf w ≡ kind
+right-kind kind w h = eqb-true (kindOf w) kind (not-false (eqb (kindOf w) kind) h)
 
 -- a word of a kind above 0 is there
-there : (ws : List ℕ) (k : ℕ) → 0 < k → kindOf (word ws 0) ≡ k → 1 ≤ length ws
-there [] k p h = absurd (omega arith)
-there (w ∷ ws) k p h = omega arith
-
--- nothing stands after it
-alone : (ws : List ℕ) → 1 ≤ length ws → length ws ≤ 1 → word ws 0 ∷ [] ≡ ws
-alone [] h k = absurd (omega arith)
-alone (w ∷ []) h k = refl
-alone (v ∷ w ∷ ws) h k = absurd (omega arith)
+there : (ws : List ℕ) (i k : ℕ) → 0 < k → kindOf (word ws i) ≡ k → i < length ws
+there ws i k p h = go (decLt i (length ws))
+  where
+    go : Dec (i < length ws) → i < length ws
+    go (yes q) = q
+    go (no q) = let z : word ws i ≡ 0 = List·getD-eq-default ws 0 (omega (arith, q)) in absurd (omega arith)
 
 module _ (ws : List ℕ) where
-  abbrev pub offersIn : List ℕ
-  offersIn = take (offersOf (word ws 1)) (drop 2 ws)
+  abbrev s : Shape
+  s = shapeIn (word ws shapeAt)
 
-  abbrev pub pastOffers : List ℕ
-  pastOffers = drop (offersOf (word ws 1)) (drop 2 ws)
-
-  abbrev pub total : ℕ
-  total = offersOf (word ws 1) * pairsOf (word ws 1)
-
-  abbrev pub differencesIn : List ℕ
-  differencesIn = take total pastOffers
-
-  abbrev pub endIn : List ℕ
-  endIn = drop total pastOffers
+  abbrev l : Layout
+  l = layoutOf (shapeIn (word ws shapeAt))
 
 -- what is known of the words of an accepted file
 pub record Passed (ws : List ℕ) : Type 0 where
-  pub level-stands : kindOf (word ws 0) ≡ 1
-  pub figures : badLevel (aOf (word ws 0)) (bOf (word ws 0)) ≡ false
-  pub shape-stands : kindOf (word ws 1) ≡ 2
-  pub counts : badCounts (kOf (word ws 1)) (offersOf (word ws 1)) (pairsOf (word ws 1)) ≡ false
-  pub unused : unusedOf (word ws 1) ≡ 0
-  pub offers : NoneHolds (offerPlaces [] (offersOf (word ws 1)) (drop 2 ws))
-  pub differences : NoneHolds (differencePlaces (total ws) (pastOffers ws))
-  pub end-stands : kindOf (word (endIn ws) 0) ≡ 15
-  pub counted : countOf (word (endIn ws) 0) ≡ 2 + offersOf (word ws 1) + total ws
-  pub last : length (endIn ws) ≤ 1
-  pub some : 1 ≤ length (endIn ws)
+  pub level-stands : kindOf (word ws levelAt) ≡ 1
+  pub level-good : badLevel (levelIn (word ws levelAt) .a) (levelIn (word ws levelAt) .b) ≡ false
+  pub shape-stands : kindOf (word ws shapeAt) ≡ 2
+  pub counts : badColumns offersMost (s ws .offers) (s ws .k) ≡ false
+  pub unused : unusedOf (word ws shapeAt) ≡ 0
+  pub laid : NoneHolds (designChecks (s ws .design))
+  pub offers : (i : ℕ) → i < s ws .offers → NoneHolds (offerPlace ws (l ws) i)
+  pub figures : (i : ℕ) → i < figureCount (s ws) → NoneHolds (figurePlace ws (l ws) i)
+  pub end-stands : kindOf (word ws (l ws .end)) ≡ 15
+  pub counted : countOf (word ws (l ws .end)) ≡ l ws .end
+  pub many : length ws ≡ wordTotal (s ws)
 
 passed : (ws : List ℕ) → NoneHolds (placeChecks ws) → Passed ws
-unfolding placeChecks trialOf
+unfolding placeChecks bodyPlaces
 passed ws h =
-    let s = or-none (badCounts (kOf (word ws 1)) (offersOf (word ws 1)) (pairsOf (word ws 1))) (not (eqb (unusedOf (word ws 1)) 0)) (h .1 .1 .1 .0) in
-    let o = none-append (offerPlaces [] (offersOf (word ws 1)) (drop 2 ws)) (differencePlaces (total ws) (pastOffers ws) ++ endPlace (wordsBefore (trialOf ws)) (endIn ws)) (h .1 .1 .1 .1) in
-    let d = none-append (differencePlaces (total ws) (pastOffers ws)) (endPlace (wordsBefore (trialOf ws)) (endIn ws)) (o .1) in
-    let e = or-none (not (eqb (countOf (word (endIn ws) 0)) (wordsBefore (trialOf ws)))) (ltb 1 (length (endIn ws))) (d .1 .1 .0) in
-    let k = right-kind 15 (word (endIn ws) 0) (d .1 .0) in
+    let c = or-none (badColumns offersMost (s ws .offers) (s ws .k)) (not (eqb (unusedOf (word ws shapeAt)) 0)) (h .1 .1 .1 .0) in
+    let os = placesFrom (offerPlace ws (l ws)) 0 (s ws .offers) in
+    let fs = placesFrom (figurePlace ws (l ws)) 0 (figureCount (s ws)) in
+    let b = none-append (designChecks (s ws .design)) (os ++ (fs ++ endPlace ws (l ws .end))) (h .1 .1 .1 .1) in
+    let o = none-append os (fs ++ endPlace ws (l ws .end)) (b .1) in
+    let d = none-append fs (endPlace ws (l ws .end)) (o .1) in
+    let e = or-none (not (eqb (countOf (word ws (l ws .end))) (l ws .end))) (ltb (l ws .end + 1) (length ws)) (d .1 .1 .0) in
+    let k = right-kind 15 (word ws (l ws .end)) (d .1 .0) in
     record {
-      level-stands = right-kind 1 (word ws 0) (h .0);
-      figures = h .1 .0;
-      shape-stands = right-kind 2 (word ws 1) (h .1 .1 .0);
-      counts = s .0;
-      unused = eqb-true (unusedOf (word ws 1)) 0 (not-false (eqb (unusedOf (word ws 1)) 0) (s .1));
-      offers = o .0;
-      differences = d .0;
+      level-stands = right-kind 1 (word ws levelAt) (h .0);
+      level-good = h .1 .0;
+      shape-stands = right-kind 2 (word ws shapeAt) (h .1 .1 .0);
+      counts = c .0;
+      unused = eqb-true (unusedOf (word ws shapeAt)) 0 (not-false (eqb (unusedOf (word ws shapeAt)) 0) (c .1));
+      laid = b .0;
+      offers = places-each (offerPlace ws (l ws)) (s ws .offers) (o .0);
+      figures = places-each (figurePlace ws (l ws)) (figureCount (s ws)) (d .0);
       end-stands = k;
-      counted = eqb-true (countOf (word (endIn ws) 0)) (wordsBefore (trialOf ws)) (not-false (eqb (countOf (word (endIn ws) 0)) (wordsBefore (trialOf ws))) (e .0));
-      last = ltb-false 1 (length (endIn ws)) (e .1);
-      some = there (endIn ws) 15 (omega arith) k;
+      counted = eqb-true (countOf (word ws (l ws .end))) (l ws .end) (not-false (eqb (countOf (word ws (l ws .end))) (l ws .end)) (e .0));
+      many = omega (arith, there ws (l ws .end) 15 (omega arith) k, ltb-false (l ws .end + 1) (length ws) (e .1));
     }
 
+-- ---- the trial of words
+
+pub contents-read : (ws : List ℕ) → contents (trialOf ws) ≡ contentsIn ws
+unfolding trialOf contentsIn
+contents-read ws =
+    contents-filled (contentsIn ws) (tabulate-length (s ws .offers) (codeIn ws (l ws))) (tabulate-length (s ws .offers) (digitsIn ws (l ws))) (tabulate-length (figureCount (s ws)) (figureIn ws (l ws)))
+
 module _ (ws : List ℕ) (p : Passed ws) where
-  pub words-many : length ws ≡ 3 + offersOf (word ws 1) + total ws
-  words-many =
-      omega (arith, p .some, p .last, length-drop (total ws) (pastOffers ws), length-drop (offersOf (word ws 1)) (drop 2 ws), length-drop 2 ws)
+  codes-at : (i : ℕ) → i < s ws .offers → getD (contentsIn ws .setting .codes) i 0 ≡ codeIn ws (l ws) i
+  unfolding contentsIn
+  codes-at i h = tabulate-getD (s ws .offers) (codeIn ws (l ws)) i 0 h
 
-  offersIn-length : length (offersIn ws) ≡ offersOf (word ws 1)
-  offersIn-length = length-take-le (offersOf (word ws 1)) (drop 2 ws) (omega (arith, words-many, length-drop 2 ws))
+  digits-at : (i : ℕ) → i < s ws .offers → getD (contentsIn ws .setting .digits) i 0 ≡ digitsIn ws (l ws) i
+  unfolding contentsIn
+  digits-at i h = tabulate-getD (s ws .offers) (digitsIn ws (l ws)) i 0 h
 
-  differencesIn-length : length (differencesIn ws) ≡ total ws
-  differencesIn-length = length-take-le (total ws) (pastOffers ws) (omega (arith, words-many, length-drop (offersOf (word ws 1)) (drop 2 ws), length-drop 2 ws))
+  figures-at : (i : ℕ) → i < figureCount (s ws) → getD (contentsIn ws .figures) i (pos 0) ≡ figureIn ws (l ws) i
+  unfolding contentsIn
+  figures-at i h = tabulate-getD (figureCount (s ws)) (figureIn ws (l ws)) i (pos 0) h
 
-  codes-read : take (offersOf (word ws 1)) (trialOf ws .codes) ≡ map codeOf (offersIn ws)
-  unfolding trialOf
-  codes-read = padded-take 16 (offersOf (word ws 1)) 0 (map codeOf (offersIn ws)) (length-map (offersIn ws) codeOf ∙ offersIn-length)
+  offers-accepted : (i : ℕ) → i < s ws .offers → NoneHolds (offerChecks (nth (contentsIn ws .setting .codes) 0) (nth (contentsIn ws .setting .digits) 0) i)
+  offers-accepted i h =
+      subst NoneHolds (sym (offer-same (nth (contentsIn ws .setting .codes) 0) (codeIn ws (l ws)) (nth (contentsIn ws .setting .digits) 0) (digitsIn ws (l ws)) (s ws .offers) codes-at digits-at i h)) (p .offers i h .1)
 
-  digits-read : take (offersOf (word ws 1)) (trialOf ws .digits) ≡ map digitsOf (offersIn ws)
-  unfolding trialOf
-  digits-read = padded-take 16 (offersOf (word ws 1)) 0 (map digitsOf (offersIn ws)) (length-map (offersIn ws) digitsOf ∙ offersIn-length)
+  figures-accepted : (i : ℕ) → i < figureCount (s ws) → NoneHolds (figureChecks (nth (contentsIn ws .figures) (pos 0)) i)
+  figures-accepted i h = (ap badDifference (figures-at i h) ∙ p .figures i h .1 .0, tt)
 
-  differences-read : take (total ws) (trialOf ws .differences) ≡ map differenceOf (differencesIn ws)
-  unfolding trialOf
-  differences-read = padded-take 144 (total ws) (pos 0) (map differenceOf (differencesIn ws)) (length-map (differencesIn ws) differenceOf ∙ differencesIn-length)
+  heading-accepted : NoneHolds (headingChecks (levelIn (word ws levelAt)) (s ws))
+  unfolding headingChecks
+  heading-accepted = (p .counts, none-join (designChecks (s ws .design)) ((badLevel (levelIn (word ws levelAt) .a) (levelIn (word ws levelAt) .b), r3) ∷ []) (p .laid) (p .level-good, tt))
+
+  all-accepted : NoneHolds (contentChecks (contentsIn ws))
+  unfolding contentChecks contentsIn
+  all-accepted =
+      let offer = offerChecks (nth (contentsIn ws .setting .codes) 0) (nth (contentsIn ws .setting .digits) 0) in
+      let figure = figureChecks (nth (contentsIn ws .figures) (pos 0)) in
+      none-join (headingChecks (levelIn (word ws levelAt)) (s ws)) (placesFrom offer 0 (s ws .offers) ++ placesFrom figure 0 (figureCount (s ws))) heading-accepted
+      (none-join (placesFrom offer 0 (s ws .offers)) (placesFrom figure 0 (figureCount (s ws))) (places-none offer (s ws .offers) offers-accepted) (places-none figure (figureCount (s ws)) figures-accepted))
 
   pub trial-accepted : trialRefusal (trialOf ws) ≡ 0
-  unfolding trialRefusal trialChecks trialOf
-  trial-accepted =
-      none-first (trialChecks (trialOf ws)) (
-        p .counts,
-        (
-          p .figures,
-          none-join (offerChecks [] (take (offersOf (word ws 1)) (trialOf ws .codes)) (take (offersOf (word ws 1)) (trialOf ws .digits))) (differenceChecks (take (total ws) (trialOf ws .differences)))
-              (rw (codes-read, digits-read) (offers-accepted [] (offersOf (word ws 1)) (drop 2 ws) (p .offers)))
-              (rw differences-read (differences-accepted (total ws) (pastOffers ws) (p .differences))),
-        ),
-      )
+  unfolding trialRefusal trialChecks
+  trial-accepted = none-first (contentChecks (contents (trialOf ws))) (subst (λ (x : Contents). NoneHolds (contentChecks x)) (sym (contents-read ws)) all-accepted)
 
   pub trial-lengths : ArrayLengths (trialOf ws)
-  unfolding trialOf
+  unfolding trialOf contentsIn
   trial-lengths =
-      let acc = accepted (trialOf ws) trial-accepted in
-      let n = acc .offers-most in
+      let f = fitting offersMost (s ws .offers) (s ws .k) (p .counts) in
+      let u = laid-out (s ws .design) (p .laid) .units-most in
       record {
-        codes-16 = padded-length 16 0 (map codeOf (offersIn ws)) (omega (arith, n, length-map (offersIn ws) codeOf, offersIn-length));
-        digits-16 = padded-length 16 0 (map digitsOf (offersIn ws)) (omega (arith, n, length-map (offersIn ws) digitsOf, offersIn-length));
-        differences-144 = padded-length 144 (pos 0) (map differenceOf (differencesIn ws)) (omega (arith, product-most (offersOf (word ws 1)) (pairsOf (word ws 1)) n (acc .pairs-most), length-map (differencesIn ws) differenceOf, differencesIn-length));
+        codes-length = padded-length offersMost 0 (tabulate (s ws .offers) (codeIn ws (l ws))) (omega (arith, f .columns-most, tabulate-length (s ws .offers) (codeIn ws (l ws))));
+        digits-length = padded-length offersMost 0 (tabulate (s ws .offers) (digitsIn ws (l ws))) (omega (arith, f .columns-most, tabulate-length (s ws .offers) (digitsIn ws (l ws))));
+        figures-length = padded-length figuresMost (pos 0) (tabulate (figureCount (s ws)) (figureIn ws (l ws))) (omega (arith, count-most (s ws) (f .columns-most) u, tabulate-length (figureCount (s ws)) (figureIn ws (l ws))));
       }
 
+  word-again : (i : ℕ) → i < wordTotal (s ws) → word (contentWords (contentsIn ws)) i ≡ word ws i
+  unfolding contentsIn
+  word-again =
+      place-cases (s ws) (λ i. word (contentWords (contentsIn ws)) i ≡ word ws i)
+      (word-level (contentsIn ws) ∙ level-again (word ws levelAt) (p .level-stands))
+      (word-shape (contentsIn ws) ∙ shape-again (word ws shapeAt) (p .shape-stands) (p .unused))
+      (λ i h. word-offer (contentsIn ws) i h ∙ ap₂ offerWord (codes-at i h) (digits-at i h) ∙ offer-again (word ws (offerAt (l ws) i)) (right-kind 3 (word ws (offerAt (l ws) i)) (p .offers i h .0)))
+      (λ i h. word-figure (contentsIn ws) i h ∙ ap differenceWord (figures-at i h) ∙ difference-again (word ws (figureAt (l ws) i)) (right-kind 4 (word ws (figureAt (l ws) i)) (p .figures i h .0)))
+      (word-end (contentsIn ws) ∙ end-again (word ws (l ws .end)) (l ws .end) (p .end-stands) (p .counted))
+
   pub words-again : fileWords (trialOf ws) ≡ ws
-  unfolding fileWords trialOf
-  words-again =
-      let n = offersOf (word ws 1) in
-      ap₂ (λ (x : ℕ) (xs : List ℕ). x ∷ xs) (level-again (word ws 0) (p .level-stands))
-      (ap₂ (λ (x : ℕ) (xs : List ℕ). x ∷ xs) (shape-again (word ws 1) (p .shape-stands) (p .unused))
-      (ap₂ (λ (xs ys : List ℕ). xs ++ ys) (ap₂ (zipWith offerWord) codes-read digits-read ∙ offers-again [] (offersOf (word ws 1)) (drop 2 ws) (p .offers))
-      (ap₂ (λ (xs ys : List ℕ). xs ++ ys) (ap (map differenceWord) differences-read ∙ differences-again (total ws) (pastOffers ws) (p .differences))
-      (ap (λ (x : ℕ). x ∷ []) (end-again (word (endIn ws) 0) (2 + offersOf (word ws 1) + total ws) (p .end-stands) (p .counted)) ∙ alone (endIn ws) (p .some) (p .last)))))
-      ∙ ap (λ (xs : List ℕ). word ws 0 ∷ word ws 1 ∷ xs) (ap (λ (xs : List ℕ). offersIn ws ++ xs) (take-append-drop (total ws) (pastOffers ws)) ∙ take-append-drop (offersOf (word ws 1)) (drop 2 ws))
-      ∙ two-words ws (omega (arith, words-many))
+  unfolding fileWords contentsIn
+  words-again = ap contentWords (contents-read ws) ∙ ext-getD 0 (contentWords (contentsIn ws)) ws (words-length (contentsIn ws) ∙ sym (p .many)) (λ i h. word-again i (omega (arith, words-length (contentsIn ws))))
 
 -- ---- the whole file
 
@@ -176,6 +178,6 @@ unfolding fileRefusal fileChecks
 file-passed bytes h = let f = none-holds (fileChecks bytes) h in record { length-good = f .0; words-good = passed (wordsOf bytes) (f .1) }
 
 module _ (bytes : List ℕ) (h : fileRefusal bytes ≡ 0) where
-  pub lengths : (not (eqb (length bytes % 4) 0) ≡ false) × (ltb longest (length bytes) ≡ false)
+  pub lengths : (not (eqb (length bytes % 4) 0) ≡ false) × (ltb longestFile (length bytes) ≡ false)
   unfolding badLength
-  lengths = or-none (not (eqb (length bytes % 4) 0)) (ltb longest (length bytes)) (or-none (eqb (length bytes) 0) (not (eqb (length bytes % 4) 0) || ltb longest (length bytes)) (file-passed bytes h .length-good) .1)
+  lengths = or-none (not (eqb (length bytes % 4) 0)) (ltb longestFile (length bytes)) (or-none (eqb (length bytes) 0) (not (eqb (length bytes % 4) 0) || ltb longestFile (length bytes)) (file-passed bytes h .length-good) .1)

@@ -5,9 +5,7 @@
 --   read-write          an accepted file, read and written, is the same bytes
 --   read-accepted       the trial of an accepted file is accepted
 --   read-lengths        and its arrays have their lengths
---   read-many           how many words an accepted file has
-use Prim.Native.Nat.{ℕ, _+_, _%_}
-use native.Mathlib.Omega.{arith}
+use Prim.Native.Nat.{ℕ, _%_}
 use mathlib.Core.Path.{_≡_, refl, sym, ap, _∙_}
 use mathlib.Core.List.{List}
 use lib.ListN.{length}
@@ -15,16 +13,16 @@ use lib.Dec.{eqb}
 use borrow.Author.Tests.{eqb-true, not-false}
 use Rattle.refusals.specs.Answers.{firstRefusal}
 use Rattle.refusals.proofs.Answers.{answer-map}
-use Rattle.trial.specs.Record.{ArrayLengths}
+use Rattle.trial.specs.Record.{ArrayLengths, blank, trimmed}
 use Rattle.trial.specs.Refusals.{trialRefusal}
 use Rattle.trial.specs.declared.Trial.{Trial}
-use Rattle.trialfile.specs.Words.{Bytes, wordsOf, bytesOf}
-use Rattle.trialfile.specs.Files.{blank, trialOf, wordsBefore, fileChecks, fileRefusal, readingOf}
-use Rattle.trialfile.specs.Writings.{fileWords, fileOf, trimmed}
+use Rattle.words.specs.Words.{Bytes, wordsOf, bytesOf}
+use Rattle.trialfile.specs.Files.{trialOf, fileChecks, fileRefusal, readingOf}
+use Rattle.trialfile.specs.Writings.{fileWords, fileOf}
 use Rattle.trialfile.specs.declared.Reading.{Reading}
-use Rattle.trialfile.proofs.Words.{words-bytes, bytes-words}
+use Rattle.words.proofs.Words.{words-bytes, bytes-words}
 use Rattle.trialfile.proofs.Written.{words-hold, file-accepted}
-use Rattle.trialfile.proofs.Passed.{words-many, trial-accepted, trial-lengths, words-again, file-passed, lengths}
+use Rattle.trialfile.proofs.Passed.{trial-accepted, trial-lengths, words-again, file-passed, lengths}
 use Rattle.refusals.proofs.Answers as answers
 
 -- the refusal in the answer is the file's
@@ -51,7 +49,3 @@ module _ (bytes : List ℕ) (h : fileRefusal bytes ≡ 0) where
 
   pub read-lengths : ArrayLengths (trialOf (wordsOf bytes))
   read-lengths = trial-lengths (wordsOf bytes) (file-passed bytes h .words-good)
-
-  pub read-many : length (wordsOf bytes) ≡ wordsBefore (trialOf (wordsOf bytes)) + 1
-  unfolding trialOf
-  read-many = omega (arith, words-many (wordsOf bytes) (file-passed bytes h .words-good))

@@ -1,48 +1,62 @@
--- Laws for reading: what an accepted file's trial fits into, and the answer.
---   offers-fit, pairs-fit, product-fits, words-fit   the counts of an accepted file, and that its words are there
---   trial-read                                   the trial made of its parts
---   refused, taken                               the answer
-use Prim.Native.Nat.{ℕ, _+_, _*_, _/_, _%_, _≤_}
-use native.Mathlib.Omega.{arith}
-use mathlib.Core.Path.{_≡_, sym, ap, _∙_, subst}
-use mathlib.Core.List.{List, map}
-use lib.ListN.{length, take, drop}
-use lib.Seq.{drop-drop}
+-- Laws for reading: what an accepted file's shape fits into, and the answer.
+--   shape-fits       the counts of an accepted file's shape
+--   trial-read       the trial made of its parts
+--   refused, taken   the answer
+use Prim.Native.Nat.{ℕ, _≤_}
+use mathlib.Core.Path.{_≡_, refl, sym, ap, ap₂, _∙_, subst}
+use mathlib.Core.List.{List}
 use lib.IntN.{ℤ, pos}
-use Rattle.order.specs.Lists.{padded}
+use Rattle.limits.specs.Limits.{offersMost, pairsMost, figuresMost}
+use Rattle.order.specs.Lists.{tabulate, padded}
+use Rattle.refusals.proofs.Limits.{fitting}
+use Rattle.trial.specs.Designs.{unitsOf}
+use Rattle.trial.specs.Record.{figureCount, blank}
+use Rattle.trial.specs.declared.Level.{Level}
+use Rattle.trial.specs.declared.Shape.{Shape}
 use Rattle.trial.specs.declared.Trial.{Trial}
-use Rattle.trial.proofs.Accepted.{accepted}
-use Rattle.trialfile.specs.Words.{wordsOf, word, codeOf, digitsOf, differenceOf}
-use Rattle.trialfile.specs.Files.{blank, trialOf, fileChecks, fileRefusal, readingOf}
-use Rattle.trialfile.proofs.Parts.{product-most}
-use Rattle.trialfile.proofs.RoundTrip.{read-taken, read-accepted, read-many}
+use Rattle.trial.proofs.LaidOut.{laid-out}
+use Rattle.words.specs.Words.{wordsOf, word}
+use Rattle.trialfile.specs.Layouts.{levelAt, shapeAt, layoutOf}
+use Rattle.words.specs.Words.{levelIn, shapeIn}
+use Rattle.trialfile.specs.Files.{codeIn, digitsIn, figureIn, contentsIn, trialOf, fileChecks, fileRefusal, readingOf}
+use Rattle.trialfile.specs.declared.layout.Layout.{Layout}
+use Rattle.trialfile.proofs.Passed.{file-passed}
+use Rattle.trialfile.proofs.RoundTrip.{read-taken}
 use Rattle.refusals.proofs.Answers as answers
 
-module _ (bs : List ℕ) (h : fileRefusal bs ≡ 0) (v : ℕ) (f : v ≡ word (wordsOf bs) 1) where
-  pub offers-fit : v / 256 % 256 ≤ 16
-  unfolding trialOf
-  offers-fit = subst (λ (x : ℕ). x / 256 % 256 ≤ 16) (sym f) (accepted (trialOf (wordsOf bs)) (read-accepted bs h) .offers-most)
+pub shape-fits : (bs : List ℕ) → fileRefusal bs ≡ 0 → (v : ℕ) (s : Shape) → v ≡ word (wordsOf bs) shapeAt → s ≡ shapeIn v → (s .offers ≤ offersMost) × (unitsOf (s .design) ≤ pairsMost)
+shape-fits bs h v s e f =
+    let p = file-passed bs h .words-good in
+    let w = word (wordsOf bs) shapeAt in
+    subst (λ (x : Shape). (x .offers ≤ offersMost) × (unitsOf (x .design) ≤ pairsMost)) (sym (f ∙ ap shapeIn e))
+    (fitting offersMost (shapeIn w .offers) (shapeIn w .k) (p .counts) .columns-most, laid-out (shapeIn w .design) (p .laid) .units-most)
 
-  pub pairs-fit : v % 256 ≤ 9
-  unfolding trialOf
-  pairs-fit = subst (λ (x : ℕ). x % 256 ≤ 9) (sym f) (accepted (trialOf (wordsOf bs)) (read-accepted bs h) .pairs-most)
+-- a trial of a level, a shape and words
+trialBy : List ℕ → Level → Shape → Trial
+unfolding tabulate layoutOf figureCount
+trialBy ws v s = record {
+  level = v;
+  shape = s;
+  labels = record { codes = padded offersMost 0 (tabulate (s .offers) (codeIn ws (layoutOf s))); digits = padded offersMost 0 (tabulate (s .offers) (digitsIn ws (layoutOf s))) };
+  figures = padded figuresMost (pos 0) (tabulate (figureCount s) (figureIn ws (layoutOf s)));
+}
 
-  pub product-fits : v / 256 % 256 * (v % 256) ≤ 144
-  product-fits = product-most (v / 256 % 256) (v % 256) offers-fit pairs-fit
+trialOf-by : (ws : List ℕ) → trialOf ws ≡ trialBy ws (levelIn (word ws levelAt)) (shapeIn (word ws shapeAt))
+unfolding trialOf contentsIn trialBy
+trialOf-by ws = refl
 
-  pub words-fit : 2 + v / 256 % 256 + v / 256 % 256 * (v % 256) ≤ length (wordsOf bs)
-  unfolding trialOf
-  words-fit = subst (λ (x : ℕ). 2 + x / 256 % 256 + x / 256 % 256 * (x % 256) ≤ length (wordsOf bs)) (sym f) (omega (arith, read-many bs h))
+made-by : (ws : List ℕ) (n : ℕ) (a : Level) (s : Shape) (l : Layout) (cs ds : List ℕ) (xs : List ℤ) → l ≡ layoutOf s → n ≡ figureCount s
+    → cs ≡ padded offersMost 0 (tabulate (s .offers) (codeIn ws l)) → ds ≡ padded offersMost 0 (tabulate (s .offers) (digitsIn ws l)) → xs ≡ padded figuresMost (pos 0) (tabulate n (figureIn ws l))
+    → record { level = a; shape = s; labels = record { codes = cs; digits = ds }; figures = xs } ≡ trialBy ws a s
+unfolding trialBy
+made-by ws n a s l cs ds xs e4 e5 ec ed ex = rw (ec, ed, ex, e4, e5)
 
-pub trial-read : (ws : List ℕ) (w v : ℕ) (cs ds : List ℕ) (xs : List ℤ) → w ≡ word ws 0 → v ≡ word ws 1
-    → cs ≡ padded 16 0 (map codeOf (take (v / 256 % 256) (drop 2 ws)))
-    → ds ≡ padded 16 0 (map digitsOf (take (v / 256 % 256) (drop 2 ws)))
-    → xs ≡ padded 144 (pos 0) (map differenceOf (take (v / 256 % 256 * (v % 256)) (drop (2 + v / 256 % 256) ws)))
-    → record { a = w / 16384 % 16384; b = w % 16384; k = v / 65536 % 256; offers = v / 256 % 256; pairs = v % 256; codes = cs; digits = ds; differences = xs } ≡ trialOf ws
-unfolding trialOf
-trial-read ws w v cs ds xs e f ec ed ex =
-    let past : drop (2 + v / 256 % 256) ws ≡ drop (v / 256 % 256) (drop 2 ws) = sym (drop-drop (v / 256 % 256) 2 ws) in
-    rw (ec, ed, ex, past, e, f)
+pub trial-read : (ws : List ℕ) (w v n : ℕ) (a : Level) (s : Shape) (l : Layout) (cs ds : List ℕ) (xs : List ℤ)
+    → w ≡ word ws levelAt → a ≡ levelIn w → v ≡ word ws shapeAt → s ≡ shapeIn v → l ≡ layoutOf s → n ≡ figureCount s
+    → cs ≡ padded offersMost 0 (tabulate (s .offers) (codeIn ws l)) → ds ≡ padded offersMost 0 (tabulate (s .offers) (digitsIn ws l)) → xs ≡ padded figuresMost (pos 0) (tabulate n (figureIn ws l))
+    → record { level = a; shape = s; labels = record { codes = cs; digits = ds }; figures = xs } ≡ trialOf ws
+trial-read ws w v n a s l cs ds xs e0 e1 e2 e3 e4 e5 ec ed ex =
+    made-by ws n a s l cs ds xs e4 e5 ec ed ex ∙ ap₂ (trialBy ws) (e1 ∙ ap levelIn e0) (e3 ∙ ap shapeIn e2) ∙ sym (trialOf-by ws)
 
 module _ (bs : List ℕ) (n : ℕ) (t : Trial) (e : n ≡ fileRefusal bs) where
   pub refused : (n ≡ 0 → ⊥) → t ≡ blank → record { refusal = n; trial = t } ≡ readingOf bs

@@ -1,30 +1,27 @@
--- Places that the counts of a record don't use change nothing: two records that agree on the others have the same
+-- Places that the counts of a record don't use change nothing: two records of the same trial have the same
 --   file-same            file
 --   writing-same         answer of the writer
 --   written-same         buffer after it
-use Prim.Native.Nat.{ℕ}
+use Prim.Native.Nat.{ℕ, _*_}
 use mathlib.Core.Path.{_≡_, ap, ap₂}
 use mathlib.Core.List.{List, _++_}
 use lib.ListN.{length}
 use Rattle.refusals.specs.Answers.{Checks, answer, afterwards}
 use Rattle.refusals.specs.Buffers.{tooShort, written}
-use Rattle.trial.specs.Used.{SameUsed}
+use Rattle.trial.specs.Record.{Contents, Same}
 use Rattle.trial.specs.declared.Trial.{Trial}
 use Rattle.trial.proofs.Unused.{checks-same}
-use Rattle.trialfile.specs.Words.{bytesOf}
-use Rattle.trialfile.specs.Writings.{offerWords, differenceWords, fileWords, fileOf, fileLength, writeChecks, writingOf, afterWriting}
+use Rattle.words.specs.Words.{bytesOf}
+use Rattle.trialfile.specs.Layouts.{wordTotal}
+use Rattle.trialfile.specs.Writings.{contentWords, fileWords, fileOf, fileLength, writeChecks, writingOf, afterWriting}
 
-module _ (t u : Trial) (s : SameUsed t u) where
-  words-same : fileWords t ≡ fileWords u
-  unfolding fileWords offerWords differenceWords
-  words-same = rw (s .codes-same, s .digits-same, s .differences-same, s .a-same, s .b-same, s .k-same, s .offers-same, s .pairs-same)
-
+module _ (t u : Trial) (s : Same t u) where
   pub file-same : fileOf t ≡ fileOf u
-  unfolding fileOf
-  file-same = ap bytesOf words-same
+  unfolding fileOf fileWords
+  file-same = ap (λ (c : Contents). bytesOf (contentWords c)) s
 
   length-same : fileLength t ≡ fileLength u
-  length-same = rw (s .offers-same, s .pairs-same)
+  length-same = ap (λ (c : Contents). 4 * wordTotal (c .setting .shape)) s
 
   checked-same : (places : ℕ) → writeChecks t places ≡ writeChecks u places
   unfolding writeChecks

@@ -1,88 +1,142 @@
 -- The file of an accepted trial: how long it is, that it passes at every place, and that its words hold the trial.
---   fileWords-length, fileLength-is, fileLength-most    its words, its bytes, at most the longest file
---   words-hold                                          its words hold the trial, with unused places zero
---   file-accepted                                       it is accepted
-use Prim.Native.Nat.{ℕ, _+_, _*_, _%_, _≤_, _<_}
+--   printed, in-range                        what it is for an offer to pass 5, and a figure 7
+--   fileLength-is, fileLength-most           its bytes, at most the longest file
+--   words-hold                               its words hold the trial, with unused places zero
+--   file-accepted                            it is accepted
+use Prim.Native.Nat.{ℕ, _+_, _*_, _%_, _^_, _≤_, _<_}
 use native.Mathlib.Omega.{arith}
+use native.Mathlib.Nat.{pow-le-pow-right, zero-lt-suc}
 use mathlib.Core.Path.{_≡_, refl, sym, ap, ap₂, _∙_, subst}
-use mathlib.Core.Bool.{false, not}
-use mathlib.Core.List.{List, [], _∷_, _++_, map, zipWith}
-use lib.ListN.{length, take, drop, length-append, length-map}
-use lib.Seq.{take-at, drop-at}
-use lib.Dec.{eqb}
-use lib.IntN.{ℤ}
-use borrow.Author.Tests.{le-ltb, ne-eqb, eq-eqb}
-use Rattle.refusals.specs.Limits.{badLevel}
-use Rattle.refusals.proofs.Answers.{NoneHolds, none-first, none-join}
-use Rattle.refusals.proofs.Limits.{neither}
-use Rattle.trial.specs.Record.{ArrayLengths}
-use Rattle.trial.specs.Refusals.{badCounts, trialRefusal}
+use mathlib.Core.Bool.{false, not, _||_}
+use mathlib.Core.List.{List, [], _∷_, _++_}
+use lib.ListN.{length, getD, take}
+use lib.Seq.{ext-getD, length-take-le}
+use lib.Dec.{leb, eqb, ltb}
+use lib.IntN.{ℤ, pos, natAbs}
+use borrow.Author.Tests.{ltb-false, leb-false, le-ltb, ne-eqb, eq-eqb}
+use Rattle.limits.specs.Limits.{offersMost, figuresMost, digitsMost, differenceMost, levelMost, longestFile}
+use Rattle.order.specs.Lists.{tabulate}
+use Rattle.order.proofs.Lists.{tabulate-length, tabulate-getD, tabulate-same}
+use Rattle.refusals.specs.Answers.{r3, placesFrom}
+use Rattle.refusals.specs.Limits.{outside, badColumns, badLevel}
+use Rattle.refusals.proofs.Answers.{NoneHolds, none-holds, none-first, none-append, none-join}
+use Rattle.refusals.proofs.Places.{places-none}
+use Rattle.refusals.proofs.Limits.{or-none, inside, neither}
+use Rattle.trial.specs.Designs.{designChecks}
+use Rattle.trial.specs.Record.{ArrayLengths, figureCount, figuresOf, Contents, contents, filled, trimmed}
+use Rattle.trial.specs.Refusals.{badDigits, badDifference, headingChecks, offerChecks, figureChecks, nth, contentChecks, trialChecks, trialRefusal}
+use Rattle.trial.specs.declared.Level.{Level}
+use Rattle.trial.specs.declared.Shape.{Shape}
 use Rattle.trial.specs.declared.Trial.{Trial}
-use Rattle.trialfile.specs.Words.{aOf, bOf, unusedOf, kOf, offersOf, pairsOf, digitsOf, codeOf, differenceOf, countOf, levelWord, shapeWord, offerWord, differenceWord, endWord}
-use Rattle.trialfile.specs.Files.{filled, trialOf, wordsBefore, longest, badLength, levelPlace, shapePlace, offerPlaces, differencePlaces, endPlace, bodyPlaces, placeChecks, fileChecks, fileRefusal}
-use Rattle.trialfile.specs.Writings.{offerWords, differenceWords, fileWords, fileOf, fileLength, trimmed}
-use Rattle.trialfile.proofs.Words.{words-bytes, bytesOf-length}
-use Rattle.trialfile.proofs.Fields.{level-kind, level-a, level-b, shape-kind, shape-unused, shape-k, shape-offers, shape-pairs, end-kind, end-count}
-use Rattle.trialfile.proofs.Parts.{product-most, Parts, parts}
-use Rattle.trialfile.proofs.Places.{no-other, offers-pass, codes-back, digits-back, offerWords-length, differences-pass, differences-back}
+use Rattle.trial.proofs.Accepted.{Accepted, accepted}
+use Rattle.trial.proofs.Conditions.{offer-same}
+use Rattle.words.specs.Words.{word, kindOf, aOf, bOf, unusedOf, kOf, offersOf, digitsOf, codeOf, differenceOf, countOf, levelWord, offerWord, differenceWord, endWord}
+use Rattle.trialfile.specs.Layouts.{levelAt, shapeAt, layoutOf, offerAt, figureAt, wordTotal}
+use Rattle.words.specs.Words.{levelIn, shapeIn}
+use Rattle.trialfile.specs.Files.{codeIn, digitsIn, figureIn, contentsIn, trialOf, badLength, otherKind, levelPlace, shapePlace, offerPlace, figurePlace, endPlace, bodyPlaces, placeChecks, fileChecks, fileRefusal}
+use Rattle.words.specs.Words.{shapeWordOf}
+use Rattle.trialfile.specs.Writings.{contentWords, fileWords, fileOf, fileLength}
+use Rattle.trialfile.specs.declared.layout.Layout.{Layout}
+use Rattle.words.proofs.Words.{words-bytes, bytesOf-length}
+use Rattle.words.proofs.Fields.{level-kind, level-back, shape-stands, shape-back, offer-kind, offer-digits, offer-code, difference-kind, difference-back, end-kind, end-count}
+use Rattle.trialfile.proofs.Layouts.{count-most, words-most}
+use Rattle.trialfile.proofs.FileWords.{words-length, word-level, word-shape, word-offer, word-figure, word-end}
 
-counts-same : {k n p k′ n′ p′ : ℕ} → k ≡ k′ → n ≡ n′ → p ≡ p′ → badCounts k n p ≡ badCounts k′ n′ p′
-counts-same e f g = rw (e, f, g)
+no-other : (kind w : ℕ) → kindOf w ≡ kind → otherKind kind w ≡ false
+no-other kind w h = ap not (eq-eqb (kindOf w) kind h)
 
--- the trial of words that stand part by part
-trialOf-parts : (w0 w1 : ℕ) (os ds rest : List ℕ) → length os ≡ offersOf w1 → length ds ≡ offersOf w1 * pairsOf w1
-    → trialOf (w0 ∷ w1 ∷ (os ++ (ds ++ rest))) ≡ filled (aOf w0) (bOf w0) (kOf w1) (offersOf w1) (pairsOf w1) (map codeOf os) (map digitsOf os) (map differenceOf ds)
-unfolding trialOf
-trialOf-parts w0 w1 os ds rest l m = rw (take-at os (ds ++ rest) (offersOf w1) l, drop-at os (ds ++ rest) (offersOf w1) l, take-at ds rest (offersOf w1 * pairsOf w1) m)
+pub printed : (c d : ℕ) → badDigits c d ≡ false → (c < 16777216) × (d ≤ digitsMost)
+unfolding badDigits
+printed c d h =
+    let f = or-none (outside 1 digitsMost d) (leb (10 ^ d) c) h in
+    let most : d ≤ digitsMost = inside 1 digitsMost d (f .0) .1 in
+    let ten : 10 ^ d ≤ 10 ^ digitsMost = pow-le-pow-right (zero-lt-suc 9) most in
+    (omega (arith, leb-false (10 ^ d) c (f .1)), most)
+
+pub in-range : (d : ℤ) → badDifference d ≡ false → natAbs d ≤ differenceMost
+unfolding badDifference
+in-range d h = ltb-false differenceMost (natAbs d) h
+
+-- a list by its members
+members : {A : Type 0} (d : A) (xs : List A) (n : ℕ) (f : ℕ → A) → length xs ≡ n → ((i : ℕ) → i < n → f i ≡ getD xs i d) → tabulate n f ≡ xs
+members d xs n f l h =
+    tabulate-same n f (nth xs d) h
+    ∙ ext-getD d (tabulate n (nth xs d)) xs (tabulate-length n (nth xs d) ∙ sym l) (λ i k. tabulate-getD n (nth xs d) i d (omega (arith, tabulate-length n (nth xs d))))
+
+-- contents of parts
+abbrev made : Level → Shape → List ℕ → List ℕ → List ℤ → Contents
+made v s cs ds xs = record { setting = record { level = v; shape = s; codes = cs; digits = ds }; figures = xs }
+
+contentsBy : List ℕ → Level → Shape → Contents
+unfolding tabulate layoutOf figureCount
+contentsBy ws v s = made v s (tabulate (s .offers) (codeIn ws (layoutOf s))) (tabulate (s .offers) (digitsIn ws (layoutOf s))) (tabulate (figureCount s) (figureIn ws (layoutOf s)))
 
 module _ (t : Trial) (ty : ArrayLengths t) (h : trialRefusal t ≡ 0) where
-  pub offerWords-used : length (offerWords t) ≡ t .offers
-  unfolding offerWords
-  offerWords-used =
-      let p = parts t ty h in
-      offerWords-length (take (t .offers) (t .codes)) (take (t .offers) (t .digits)) (p .codes-used ∙ sym (p .digits-used)) ∙ p .codes-used
+  abbrev s : Shape
+  s = t .shape
 
-  pub differenceWords-used : length (differenceWords t) ≡ t .offers * t .pairs
-  unfolding differenceWords
-  differenceWords-used = length-map (take (t .offers * t .pairs) (t .differences)) differenceWord ∙ parts t ty h .differences-used
+  abbrev l : Layout
+  l = layoutOf (t .shape)
 
-  -- the words of its file hold it
+  acc : Accepted t
+  acc = accepted t h
+
+  pub many : figureCount s ≤ figuresMost
+  many = count-most s (acc .offers-most) (acc .laid .units-most)
+
+  abbrev c : Contents
+  c = contents t
+
+  -- ---- what stands at each place
+
+  pub offer-ok : (i : ℕ) → i < s .offers → (getD (c .setting .codes) i 0 < 16777216) × (getD (c .setting .digits) i 0 ≤ digitsMost)
+  offer-ok i k = printed (getD (c .setting .codes) i 0) (getD (c .setting .digits) i 0) (acc .labels-pass i k .0)
+
+  pub figure-ok : (i : ℕ) → i < figureCount s → natAbs (getD (c .figures) i (pos 0)) ≤ differenceMost
+  figure-ok i k = in-range (getD (c .figures) i (pos 0)) (acc .figures-pass i k .0)
+
+  code-back : (i : ℕ) → i < s .offers → codeIn (contentWords c) l i ≡ getD (c .setting .codes) i 0
+  code-back i k = let p = offer-ok i k in ap codeOf (word-offer c i k) ∙ offer-code (getD (c .setting .codes) i 0) (getD (c .setting .digits) i 0) (p .0) (p .1)
+
+  digits-back : (i : ℕ) → i < s .offers → digitsIn (contentWords c) l i ≡ getD (c .setting .digits) i 0
+  digits-back i k = let p = offer-ok i k in ap digitsOf (word-offer c i k) ∙ offer-digits (getD (c .setting .codes) i 0) (getD (c .setting .digits) i 0) (p .0) (p .1)
+
+  figure-back : (i : ℕ) → i < figureCount s → figureIn (contentWords c) l i ≡ getD (c .figures) i (pos 0)
+  figure-back i k = ap differenceOf (word-figure c i k) ∙ difference-back (getD (c .figures) i (pos 0)) (figure-ok i k)
+
+  shape-is : shapeIn (word (contentWords c) shapeAt) ≡ s
+  shape-is = ap shapeIn (word-shape c) ∙ shape-back (s .k) (s .offers) (s .design) (acc .k-most) (acc .offers-most) (acc .laid .units-most)
+
+  less : t .level .a ≤ levelMost
+  less = omega (arith, acc .levelled .proper, acc .levelled .b-most)
+
+  level-is : levelIn (word (contentWords c) levelAt) ≡ t .level
+  level-is = ap levelIn (word-level c) ∙ level-back (t .level .a) (t .level .b) less (acc .levelled .b-most)
+
+  -- ---- its words hold it
+
+  contents-back : contentsIn (contentWords c) ≡ c
+  unfolding contentsIn contentsBy
+  contents-back =
+      ap₂ (contentsBy (contentWords c)) level-is shape-is
+      ∙ ap₂ (λ (cs ds : List ℕ). made (t .level) s cs ds (tabulate (figureCount s) (figureIn (contentWords c) l)))
+      (members 0 (c .setting .codes) (s .offers) (codeIn (contentWords c) l) (length-take-le (s .offers) (t .labels .codes) (omega (arith, ty .codes-length, acc .offers-most))) code-back)
+      (members 0 (c .setting .digits) (s .offers) (digitsIn (contentWords c) l) (length-take-le (s .offers) (t .labels .digits) (omega (arith, ty .digits-length, acc .offers-most))) digits-back)
+      ∙ ap (made (t .level) s (c .setting .codes) (c .setting .digits))
+      (members (pos 0) (c .figures) (figureCount s) (figureIn (contentWords c) l) (length-take-le (figureCount s) (t .figures) (omega (arith, ty .figures-length, many))) figure-back)
+
   pub words-hold : trialOf (fileWords t) ≡ trimmed t
-  unfolding fileWords trimmed offerWords differenceWords
-  words-hold =
-      let p = parts t ty h in
-      let acc = p .known in
-      let lev = acc .levelled in
-      let w0 = levelWord (t .a) (t .b) in
-      let w1 = shapeWord (t .k) (t .offers) (t .pairs) in
-      let so = shape-offers (t .k) (t .offers) (t .pairs) (acc .k-most) (acc .offers-most) (acc .pairs-most) in
-      let sp = shape-pairs (t .k) (t .offers) (t .pairs) (acc .k-most) (acc .offers-most) (acc .pairs-most) in
-      let sk = shape-k (t .k) (t .offers) (t .pairs) (acc .k-most) (acc .offers-most) (acc .pairs-most) in
-      let same = p .codes-used ∙ sym (p .digits-used) in
-      trialOf-parts w0 w1 (offerWords t) (differenceWords t) (endWord (wordsBefore t) ∷ []) (offerWords-used ∙ sym so) (differenceWords-used ∙ sym (ap₂ _*_ so sp))
-      ∙ filled-same (level-a (t .a) (t .b) (omega (arith, lev .proper, lev .b-most)) (lev .b-most)) (level-b (t .a) (t .b) (omega (arith, lev .proper, lev .b-most)) (lev .b-most)) sk so sp
-      (codes-back [] (take (t .offers) (t .codes)) (take (t .offers) (t .digits)) same (p .offers))
-      (digits-back [] (take (t .offers) (t .codes)) (take (t .offers) (t .digits)) same (p .offers))
-      (differences-back (take (t .offers * t .pairs) (t .differences)) (p .differences))
-    where
-      filled-same : {a a′ b b′ k k′ n n′ p p′ : ℕ} {cs cs′ ds ds′ : List ℕ} {xs xs′ : List ℤ} → a ≡ a′ → b ≡ b′ → k ≡ k′ → n ≡ n′ → p ≡ p′ → cs ≡ cs′ → ds ≡ ds′ → xs ≡ xs′
-          → filled a b k n p cs ds xs ≡ filled a′ b′ k′ n′ p′ cs′ ds′ xs′
-      filled-same e0 e1 e2 e3 e4 e5 e6 e7 = rw (e0, e1, e2, e3, e4, e5, e6, e7)
+  unfolding trialOf fileWords trimmed
+  words-hold = ap filled contents-back
 
-  pub fileWords-length : length (fileWords t) ≡ wordsBefore t + 1
-  unfolding fileWords
-  fileWords-length =
-      let e : length (offerWords t ++ (differenceWords t ++ (endWord (wordsBefore t) ∷ []))) ≡ t .offers + (t .offers * t .pairs + 1) =
-      length-append (offerWords t) (differenceWords t ++ (endWord (wordsBefore t) ∷ []))
-      ∙ ap₂ _+_ offerWords-used (length-append (differenceWords t) (endWord (wordsBefore t) ∷ []) ∙ ap (λ (n : ℕ). n + 1) differenceWords-used) in
-      omega (arith, e)
+  -- ---- how long it is
 
   pub fileLength-is : length (fileOf t) ≡ fileLength t
-  unfolding fileOf
-  fileLength-is = bytesOf-length (fileWords t) ∙ ap (λ (n : ℕ). 4 * n) fileWords-length
+  unfolding fileOf fileWords
+  fileLength-is = bytesOf-length (contentWords c) ∙ ap (λ (n : ℕ). 4 * n) (words-length c)
 
-  pub fileLength-most : fileLength t ≤ longest
-  fileLength-most = let acc = parts t ty h .known in omega (arith, acc .offers-most, product-most (t .offers) (t .pairs) (acc .offers-most) (acc .pairs-most))
+  pub fileLength-most : fileLength t ≤ longestFile
+  fileLength-most = words-most s (acc .offers-most) (acc .laid .units-most)
 
   length-good : badLength (fileOf t) ≡ false
   unfolding badLength
@@ -91,71 +145,62 @@ module _ (t : Trial) (ty : ArrayLengths t) (h : trialRefusal t ≡ 0) where
       let m = fileLength-most in
       let some : eqb (length (fileOf t)) 0 ≡ false = ne-eqb (length (fileOf t)) 0 (λ z. omega (arith, e)) in
       let whole : length (fileOf t) % 4 ≡ 0 = omega (arith, e) in
-      rw (some, eq-eqb (length (fileOf t) % 4) 0 whole, le-ltb longest (length (fileOf t)) (omega (arith, e, m)))
+      rw (some, eq-eqb (length (fileOf t) % 4) 0 whole, le-ltb longestFile (length (fileOf t)) (omega (arith, e, m)))
 
-  -- they pass at every place
-  body-passes : NoneHolds (bodyPlaces (t .offers) (t .pairs) (fileWords t))
-  unfolding fileWords
+  -- ---- it passes at every place
+
+  level-passes : NoneHolds (levelPlace (word (contentWords c) levelAt))
+  level-passes = (
+    no-other 1 (word (contentWords c) levelAt) (ap kindOf (word-level c) ∙ level-kind (t .level .a) (t .level .b) less (acc .levelled .b-most)),
+    (ap (λ (x : Level). badLevel (x .a) (x .b)) level-is ∙ acc .level-good, tt),
+  )
+
+  shape-passes : NoneHolds (shapePlace (word (contentWords c) shapeAt))
+  shape-passes =
+      let w = word (contentWords c) shapeAt in
+      let k = shape-stands (s .k) (s .offers) (s .design) (acc .k-most) (acc .offers-most) (acc .laid .units-most) in (
+        no-other 2 w (ap kindOf (word-shape c) ∙ k .0),
+        (
+          neither (ap (λ (x : Shape). badColumns offersMost (x .offers) (x .k)) shape-is ∙ acc .counts-good) (ap not (eq-eqb (unusedOf w) 0 (ap unusedOf (word-shape c) ∙ k .1))),
+          subst (λ (x : Shape). NoneHolds (designChecks (x .design))) (sym shape-is) (acc .layout-good),
+        ),
+      )
+
+  offers-pass : (i : ℕ) → i < s .offers → NoneHolds (offerPlace (contentWords c) l i)
+  offers-pass i k =
+      let p = offer-ok i k in (
+        no-other 3 (word (contentWords c) (offerAt l i)) (ap kindOf (word-offer c i k) ∙ offer-kind (getD (c .setting .codes) i 0) (getD (c .setting .digits) i 0) (p .0) (p .1)),
+        subst NoneHolds (sym (offer-same (codeIn (contentWords c) l) (nth (c .setting .codes) 0) (digitsIn (contentWords c) l) (nth (c .setting .digits) 0) (s .offers) code-back digits-back i k)) (acc .labels-pass i k),
+      )
+
+  figures-pass : (i : ℕ) → i < figureCount s → NoneHolds (figurePlace (contentWords c) l i)
+  figures-pass i k = (
+    no-other 4 (word (contentWords c) (figureAt l i)) (ap kindOf (word-figure c i k) ∙ difference-kind (getD (c .figures) i (pos 0)) (figure-ok i k)),
+    (ap badDifference (figure-back i k) ∙ acc .figures-pass i k .0, tt),
+  )
+
+  end-passes : NoneHolds (endPlace (contentWords c) (l .end))
+  end-passes =
+      let n : l .end < 268435456 = omega (arith, fileLength-most) in (
+        no-other 15 (word (contentWords c) (l .end)) (ap kindOf (word-end c) ∙ end-kind (l .end) n),
+        (neither (ap not (eq-eqb (countOf (word (contentWords c) (l .end))) (l .end) (ap countOf (word-end c) ∙ end-count (l .end) n))) (le-ltb (l .end + 1) (length (contentWords c)) (omega (arith, words-length c))), tt),
+      )
+
+  body-passes : NoneHolds (bodyPlaces (contentWords c) s)
+  unfolding bodyPlaces
   body-passes =
-      let p = parts t ty h in
-      let acc = p .known in
-      let end = endWord (wordsBefore t) ∷ [] in
-      let n : wordsBefore t < 268435456 = omega (arith, acc .offers-most, product-most (t .offers) (t .pairs) (acc .offers-most) (acc .pairs-most)) in
-      none-join (offerPlaces [] (t .offers) (offerWords t ++ (differenceWords t ++ end)))
-      (differencePlaces (t .offers * t .pairs) (drop (t .offers) (offerWords t ++ (differenceWords t ++ end)))
-      ++ endPlace (wordsBefore t) (drop (t .offers * t .pairs) (drop (t .offers) (offerWords t ++ (differenceWords t ++ end)))))
-      (offers-stand p (differenceWords t ++ end))
-      (rw (drop-at (offerWords t) (differenceWords t ++ end) (t .offers) offerWords-used, drop-at (differenceWords t) end (t .offers * t .pairs) differenceWords-used)
-      (none-join (differencePlaces (t .offers * t .pairs) (differenceWords t ++ end)) (endPlace (wordsBefore t) end) (differences-stand p end)
-      (no-other 15 (endWord (wordsBefore t)) (end-kind (wordsBefore t) n), (neither (ap not (eq-eqb (countOf (endWord (wordsBefore t))) (wordsBefore t) (end-count (wordsBefore t) n))) refl, tt))))
-    where
-      offers-stand : Parts t → (rest : List ℕ) → NoneHolds (offerPlaces [] (t .offers) (offerWords t ++ rest))
-      offers-stand p rest =
-          let cs = take (t .offers) (t .codes) in
-          let ds = take (t .offers) (t .digits) in
-          subst (λ (n : ℕ). NoneHolds (offerPlaces [] n (zipWith offerWord cs ds ++ rest))) (p .codes-used) (offers-pass [] cs ds rest (p .codes-used ∙ sym (p .digits-used)) (p .offers))
+      let os = placesFrom (offerPlace (contentWords c) l) 0 (s .offers) in
+      let fs = placesFrom (figurePlace (contentWords c) l) 0 (figureCount s) in
+      none-join os (fs ++ endPlace (contentWords c) (l .end)) (places-none (offerPlace (contentWords c) l) (s .offers) offers-pass)
+      (none-join fs (endPlace (contentWords c) (l .end)) (places-none (figurePlace (contentWords c) l) (figureCount s) figures-pass) end-passes)
 
-      differences-stand : Parts t → (rest : List ℕ) → NoneHolds (differencePlaces (t .offers * t .pairs) (differenceWords t ++ rest))
-      differences-stand p rest =
-          let xs = take (t .offers * t .pairs) (t .differences) in
-          subst (λ (n : ℕ). NoneHolds (differencePlaces n (map differenceWord xs ++ rest))) (p .differences-used) (differences-pass xs rest (p .differences))
-
-  level-passes : NoneHolds (levelPlace (levelWord (t .a) (t .b)))
-  level-passes =
-      let p = parts t ty h in
-      let most = p .known .levelled .b-most in
-      let less : t .a ≤ 16383 = omega (arith, p .known .levelled .proper, most) in
-      (no-other 1 (levelWord (t .a) (t .b)) (level-kind (t .a) (t .b) less most), (ap₂ badLevel (level-a (t .a) (t .b) less most) (level-b (t .a) (t .b) less most) ∙ p .figures, tt))
-
-  module _ (k : t .k ≤ 4) (n : t .offers ≤ 16) (p : t .pairs ≤ 9) where
-    abbrev w : ℕ
-    w = shapeWord (t .k) (t .offers) (t .pairs)
-
-    shape-passes : NoneHolds (shapePlace w)
-    shape-passes = (
-      no-other 2 w (shape-kind (t .k) (t .offers) (t .pairs) k n p),
-      (
-        neither
-            (counts-same (shape-k (t .k) (t .offers) (t .pairs) k n p) (shape-offers (t .k) (t .offers) (t .pairs) k n p) (shape-pairs (t .k) (t .offers) (t .pairs) k n p) ∙ parts t ty h .counts)
-            (ap not (eq-eqb (unusedOf w) 0 (shape-unused (t .k) (t .offers) (t .pairs) k n p))),
-        tt,
-      ),
-    )
-
-    rest-passes : NoneHolds (bodyPlaces (offersOf w) (pairsOf w) (fileWords t))
-    rest-passes =
-        subst (λ (m : ℕ). NoneHolds (bodyPlaces m (pairsOf w) (fileWords t))) (sym (shape-offers (t .k) (t .offers) (t .pairs) k n p))
-        (subst (λ (q : ℕ). NoneHolds (bodyPlaces (t .offers) q (fileWords t))) (sym (shape-pairs (t .k) (t .offers) (t .pairs) k n p)) body-passes)
-
-  words-pass : NoneHolds (placeChecks (fileWords t))
-  unfolding placeChecks fileWords
+  words-pass : NoneHolds (placeChecks (contentWords c))
+  unfolding placeChecks
   words-pass =
-      let acc = parts t ty h .known in
-      let w1 = shapeWord (t .k) (t .offers) (t .pairs) in
-      let rest = bodyPlaces (offersOf w1) (pairsOf w1) (fileWords t) in
-      none-join (levelPlace (levelWord (t .a) (t .b))) (shapePlace w1 ++ rest) level-passes
-      (none-join (shapePlace w1) rest (shape-passes (acc .k-most) (acc .offers-most) (acc .pairs-most)) (rest-passes (acc .k-most) (acc .offers-most) (acc .pairs-most)))
+      let w = word (contentWords c) shapeAt in
+      none-join (levelPlace (word (contentWords c) levelAt)) (shapePlace w ++ bodyPlaces (contentWords c) (shapeIn w)) level-passes
+      (none-join (shapePlace w) (bodyPlaces (contentWords c) (shapeIn w)) shape-passes (subst (λ (x : Shape). NoneHolds (bodyPlaces (contentWords c) x)) (sym shape-is) body-passes))
 
   pub file-accepted : fileRefusal (fileOf t) ≡ 0
-  unfolding fileRefusal fileChecks fileOf
-  file-accepted = none-first (fileChecks (fileOf t)) (length-good, subst (λ (ws : List ℕ). NoneHolds (placeChecks ws)) (sym (words-bytes (fileWords t))) words-pass)
+  unfolding fileRefusal fileChecks fileOf fileWords
+  file-accepted = none-first (fileChecks (fileOf t)) (length-good, subst (λ (ws : List ℕ). NoneHolds (placeChecks ws)) (sym (words-bytes (contentWords c))) words-pass)

@@ -1,69 +1,65 @@
 -- Reading a trial file (document 01). What a file is turned away for is judged place by place; its trial is read off by position. Definitions only.
---   longest                the longest file, in bytes
---   filled ..              the trial of these values: places that its counts don't use hold zero
---   blank                  the trial that holds nothing but zeros
---   trialOf ws             the trial that words hold, by position
---   wordsBefore t          how many words stand before the end word of a trial's file
+--   codeIn, digitsIn, figureIn     number and printed digits of offer i, and figure i, in words with a layout
+--   contentsIn, trialOf    the contents and the trial that words hold, by position
 --   badLength bytes        the condition of 1
 --   otherKind kind w       the condition of 2: the word is missing or of another kind
---   levelPlace, shapePlace             the level: 2, 3; the shape: 2, 4
---   offerPlace, offerPlaces            an offer, n offers: at each 2, 5, 6
---   differencePlace, differencePlaces  a difference, n differences: at each 2, 7
---   endPlace n             the end after n words: 2, 8
---   bodyPlaces             the words after the shape: offers, differences, end
+--   levelPlace, shapePlace           the level: 2, 3; the shape: 2, 4, and what its layout adds
+--   offerPlace, figurePlace          an offer: 2, 5, 6; a figure: 2, 7
+--   endPlace               the end: 2, 8
+--   bodyPlaces             the words after the shape: offers, figures, end
 --   placeChecks ws         all words, from the start
 --   fileChecks bytes       all conditions of a file, in order
 --   fileRefusal bytes      the number of the first that holds, or 0
 --   readingOf bytes        what reading a file answers: 0 and its trial, or the number of the refusal and the blank trial
-use Prim.Native.Nat.{ℕ, zero, suc, _+_, _*_, _%_}
+use Prim.Native.Nat.{ℕ, _+_, _%_}
 use mathlib.Core.Bool.{Bool, not, _||_}
-use mathlib.Core.List.{List, [], _∷_, _++_, map}
-use lib.ListN.{length, take, drop}
+use mathlib.Core.List.{List, [], _∷_, _++_}
+use lib.ListN.{length}
 use lib.Dec.{ltb, eqb}
-use lib.IntN.{ℤ, pos}
-use Rattle.order.specs.Lists.{padded}
-use Rattle.refusals.specs.Answers.{r1, r2, r3, r4, r5, r6, r7, r8, Checks, answer, firstRefusal}
-use Rattle.refusals.specs.Limits.{badSizes, badLevel}
-use Rattle.trial.specs.Refusals.{badCounts, badDigits, among, badDifference}
+use lib.IntN.{ℤ}
+use Rattle.limits.specs.Limits.{offersMost, longestFile}
+use Rattle.order.specs.Lists.{tabulate}
+use Rattle.refusals.specs.Answers.{r1, r2, r3, r4, r8, Checks, placesFrom, answer, firstRefusal}
+use Rattle.refusals.specs.Limits.{badColumns, badLevel}
+use Rattle.trial.specs.Designs.{designChecks}
+use Rattle.trial.specs.Record.{figureCount, Contents, filled, blank}
+use Rattle.trial.specs.Refusals.{badDigits, among, badDifference, earlier, offerChecks, figureChecks}
+use Rattle.trial.specs.declared.Shape.{Shape}
 use Rattle.trial.specs.declared.Trial.{Trial}
-use Rattle.trialfile.specs.Words.{wordsOf, word, kindOf, levelKind, shapeKind, offerKind, differenceKind, endKind, aOf, bOf, unusedOf, kOf, offersOf, pairsOf, digitsOf, codeOf, differenceOf, countOf}
+use Rattle.words.specs.Words.{wordsOf, word, kindOf, levelKind, shapeKind, offerKind, differenceKind, endKind, aOf, bOf, unusedOf, kOf, offersOf, levelIn, shapeIn, digitsOf, codeOf, differenceOf, countOf}
+use Rattle.trialfile.specs.Layouts.{levelAt, shapeAt, layoutOf, offerAt, figureAt}
+use Rattle.trialfile.specs.declared.layout.Layout.{Layout}
 use Rattle.trialfile.specs.declared.Reading.{Reading}
 
 -- ---- the trial
 
-abbrev pub filled : ℕ → ℕ → ℕ → ℕ → ℕ → List ℕ → List ℕ → List ℤ → Trial
-filled a b k offers pairs codes digits differences = record {
-  a = a;
-  b = b;
-  k = k;
-  offers = offers;
-  pairs = pairs;
-  codes = padded 16 0 codes;
-  digits = padded 16 0 digits;
-  differences = padded 144 (pos 0) differences;
-}
+abbrev pub codeIn : List ℕ → Layout → ℕ → ℕ
+codeIn ws l i = codeOf (word ws (offerAt l i))
 
-abbrev pub blank : Trial
-blank = filled 0 0 0 0 0 [] [] []
+abbrev pub digitsIn : List ℕ → Layout → ℕ → ℕ
+digitsIn ws l i = digitsOf (word ws (offerAt l i))
+
+abbrev pub figureIn : List ℕ → Layout → ℕ → ℤ
+figureIn ws l i = differenceOf (word ws (figureAt l i))
+
+unfoldable pub contentsIn : List ℕ → Contents
+unfolding tabulate layoutOf figureCount
+contentsIn ws =
+    let s = shapeIn (word ws shapeAt) in
+    let l = layoutOf s in
+    record {
+      setting = record { level = levelIn (word ws levelAt); shape = s; codes = tabulate (s .offers) (codeIn ws l); digits = tabulate (s .offers) (digitsIn ws l) };
+      figures = tabulate (figureCount s) (figureIn ws l);
+    }
 
 unfoldable pub trialOf : List ℕ → Trial
-trialOf ws =
-    let n = offersOf (word ws 1) in
-    let pairs = pairsOf (word ws 1) in
-    let offers = take n (drop 2 ws) in
-    filled (aOf (word ws 0)) (bOf (word ws 0)) (kOf (word ws 1)) n pairs (map codeOf offers) (map digitsOf offers)
-    (map differenceOf (take (n * pairs) (drop n (drop 2 ws))))
-
-abbrev pub wordsBefore : Trial → ℕ
-wordsBefore t = 2 + t .offers + t .offers * t .pairs
+unfolding contentsIn
+trialOf ws = filled (contentsIn ws)
 
 -- ---- the refusal
 
-abbrev pub longest : ℕ
-longest = 652
-
 unfoldable pub badLength : List ℕ → Bool
-badLength bytes = eqb (length bytes) 0 || (not (eqb (length bytes % 4) 0) || ltb longest (length bytes))
+badLength bytes = eqb (length bytes) 0 || (not (eqb (length bytes % 4) 0) || ltb longestFile (length bytes))
 
 abbrev pub otherKind : ℕ → ℕ → Bool
 otherKind kind w = not (eqb (kindOf w) kind)
@@ -74,42 +70,28 @@ levelPlace w = (otherKind levelKind w, r2) ∷ (badLevel (aOf w) (bOf w), r3) �
 abbrev pub shapePlace : ℕ → Checks
 shapePlace w =
     (otherKind shapeKind w, r2)
-    ∷ (badCounts (kOf w) (offersOf w) (pairsOf w) || not (eqb (unusedOf w) 0), r4)
-    ∷ []
+    ∷ (badColumns offersMost (offersOf w) (kOf w) || not (eqb (unusedOf w) 0), r4)
+    ∷ designChecks (shapeIn w .design)
 
--- an offer after the earlier ones, whose numbers are listed
-abbrev pub offerPlace : List ℕ → ℕ → Checks
-offerPlace earlier w = (otherKind offerKind w, r2) ∷ (badDigits (codeOf w) (digitsOf w), r5) ∷ (among (codeOf w) earlier, r6) ∷ []
+abbrev pub offerPlace : List ℕ → Layout → ℕ → Checks
+offerPlace ws l i = (otherKind offerKind (word ws (offerAt l i)), r2) ∷ offerChecks (codeIn ws l) (digitsIn ws l) i
 
-unfoldable pub offerPlaces : List ℕ → ℕ → List ℕ → Checks
-unfolding badDigits among
-offerPlaces earlier zero ws = []
-offerPlaces earlier (suc n) ws = offerPlace earlier (word ws 0) ++ offerPlaces (codeOf (word ws 0) ∷ earlier) n (drop 1 ws)
+abbrev pub figurePlace : List ℕ → Layout → ℕ → Checks
+figurePlace ws l i = (otherKind differenceKind (word ws (figureAt l i)), r2) ∷ figureChecks (figureIn ws l) i
 
-abbrev pub differencePlace : ℕ → Checks
-differencePlace w = (otherKind differenceKind w, r2) ∷ (badDifference (differenceOf w), r7) ∷ []
+abbrev pub endPlace : List ℕ → ℕ → Checks
+endPlace ws n = (otherKind endKind (word ws n), r2) ∷ (not (eqb (countOf (word ws n)) n) || ltb (n + 1) (length ws), r8) ∷ []
 
-unfoldable pub differencePlaces : ℕ → List ℕ → Checks
-unfolding badDifference
-differencePlaces zero ws = []
-differencePlaces (suc n) ws = differencePlace (word ws 0) ++ differencePlaces n (drop 1 ws)
-
-abbrev pub endPlace : ℕ → List ℕ → Checks
-endPlace n ws =
-    let w = word ws 0 in
-    (otherKind endKind w, r2) ∷ (not (eqb (countOf w) n) || ltb 1 (length ws), r8) ∷ []
-
--- the words after the shape, for so many offers and pairs
-abbrev pub bodyPlaces : ℕ → ℕ → List ℕ → Checks
-bodyPlaces n pairs ws =
-    let offers = drop 2 ws in
-    let differences = drop n offers in
-    let end = drop (n * pairs) differences in
-    offerPlaces [] n offers ++ (differencePlaces (n * pairs) differences ++ endPlace (2 + n + n * pairs) end)
+-- the words after the shape
+unfoldable pub bodyPlaces : List ℕ → Shape → Checks
+unfolding placesFrom badDigits among earlier badDifference layoutOf figureCount
+bodyPlaces ws s =
+    let l = layoutOf s in
+    placesFrom (offerPlace ws l) 0 (s .offers) ++ (placesFrom (figurePlace ws l) 0 (figureCount s) ++ endPlace ws (l .end))
 
 unfoldable pub placeChecks : List ℕ → Checks
-unfolding badLevel badSizes offerPlaces differencePlaces
-placeChecks ws = levelPlace (word ws 0) ++ (shapePlace (word ws 1) ++ bodyPlaces (offersOf (word ws 1)) (pairsOf (word ws 1)) ws)
+unfolding badLevel badColumns designChecks bodyPlaces
+placeChecks ws = levelPlace (word ws levelAt) ++ (shapePlace (word ws shapeAt) ++ bodyPlaces ws (shapeIn (word ws shapeAt)))
 
 unfoldable pub fileChecks : List ℕ → Checks
 unfolding badLength wordsOf placeChecks

@@ -1,5 +1,4 @@
-pub mod Words
+pub mod Layouts
 pub mod Files
 pub mod Writings
-pub mod Internal
 pub mod Examples

@@ -1,53 +1,56 @@
 -- Writing a trial into a lent byte buffer (document 01). Definitions only.
---   offerWords t           the words of its offers
---   differenceWords t      the words of its differences, offer by offer, pair by pair
---   fileWords t            the words of an accepted trial's file: level, shape, offers, differences, end
+--   offerWords, figureWords     the words of n offers, and of n figures
+--   contentWords c         the words of a trial's contents, in the order of the layout
+--   fileWords t            the words of an accepted trial's file: level, shape, offers, figures, end
 --   fileOf t               its bytes
 --   fileLength t           how many bytes these are
---   trimmed t              the trial with zero in every place that its counts don't use
 --   writeChecks t places   of writing t into so many places: what the record is turned away for, then 12
 --   writeRefusal t places  the number of the first that holds, or 0
 --   writingOf t places     what writing answers: 0 and the length of the file, or the number of the refusal and 0
 --   afterWriting t buf     the buffer after it: the file in its first places, or unchanged where the call is refused
-use Prim.Native.Nat.{ℕ, _+_, _*_}
-use mathlib.Core.List.{List, [], _∷_, _++_, map, zipWith}
-use lib.ListN.{length, take}
+use Prim.Native.Nat.{ℕ, _*_}
+use mathlib.Core.List.{List, [], _∷_, _++_}
+use lib.ListN.{length}
+use lib.IntN.{ℤ, pos}
+use Rattle.order.specs.Lists.{tabulate}
 use Rattle.refusals.specs.Answers.{Checks, answer, firstRefusal, afterwards}
 use Rattle.refusals.specs.Buffers.{tooShort, written}
-use Rattle.trial.specs.Refusals.{trialChecks}
+use Rattle.trial.specs.Record.{figureCount, Contents, contents}
+use Rattle.trial.specs.Refusals.{nth, trialChecks}
 use Rattle.trial.specs.declared.Trial.{Trial}
-use Rattle.trialfile.specs.Words.{bytesOf, levelWord, shapeWord, offerWord, differenceWord, endWord}
-use Rattle.trialfile.specs.Files.{filled, wordsBefore}
+use Rattle.words.specs.Words.{bytesOf, levelWord, shapeWordOf, offerWord, bitsOf, differenceWord, endWord}
+use Rattle.trialfile.specs.Layouts.{layoutOf, wordTotal}
 use Rattle.trialfile.specs.declared.Writing.{Writing}
 
-unfoldable pub offerWords : Trial → List ℕ
-unfolding zipWith
-offerWords t = zipWith offerWord (take (t .offers) (t .codes)) (take (t .offers) (t .digits))
+abbrev pub offerWords : (ℕ → ℕ) → (ℕ → ℕ) → ℕ → List ℕ
+offerWords code digits n = tabulate n (λ i. offerWord (code i) (digits i))
 
-unfoldable pub differenceWords : Trial → List ℕ
-differenceWords t = map differenceWord (take (t .offers * t .pairs) (t .differences))
+abbrev pub figureWords : (ℕ → ℤ) → ℕ → List ℕ
+figureWords figure n = tabulate n (λ i. differenceWord (figure i))
+
+unfoldable pub contentWords : Contents → List ℕ
+unfolding tabulate shapeWordOf bitsOf layoutOf figureCount
+contentWords c =
+    let s = c .setting .shape in
+    levelWord (c .setting .level .a) (c .setting .level .b)
+    ∷ shapeWordOf (s .k) (s .offers) (s .design)
+    ∷ (offerWords (nth (c .setting .codes) 0) (nth (c .setting .digits) 0) (s .offers)
+    ++ (figureWords (nth (c .figures) (pos 0)) (figureCount s)
+    ++ (endWord (layoutOf s .end) ∷ [])))
 
 unfoldable pub fileWords : Trial → List ℕ
-unfolding offerWords differenceWords
-fileWords t =
-    levelWord (t .a) (t .b)
-    ∷ shapeWord (t .k) (t .offers) (t .pairs)
-    ∷ (offerWords t ++ (differenceWords t ++ (endWord (wordsBefore t) ∷ [])))
+unfolding contentWords figureCount
+fileWords t = contentWords (contents t)
 
 unfoldable pub fileOf : Trial → List ℕ
 unfolding bytesOf fileWords
 fileOf t = bytesOf (fileWords t)
 
 abbrev pub fileLength : Trial → ℕ
-fileLength t = 4 * (wordsBefore t + 1)
-
-unfoldable pub trimmed : Trial → Trial
-trimmed t =
-    filled (t .a) (t .b) (t .k) (t .offers) (t .pairs) (take (t .offers) (t .codes)) (take (t .offers) (t .digits))
-    (take (t .offers * t .pairs) (t .differences))
+fileLength t = 4 * wordTotal (t .shape)
 
 unfoldable pub writeChecks : Trial → ℕ → Checks
-unfolding trialChecks
+unfolding trialChecks layoutOf
 writeChecks t places = trialChecks t ++ tooShort places (fileLength t)
 
 unfoldable pub writeRefusal : Trial → ℕ → ℕ

@@ -1,15 +1,18 @@
 // What a file is turned away for: at each place, the first condition that holds.
-use super::word;
+use super::layout;
+use layout::Layout;
+use limits::LONGEST_FILE;
+use limits::OFFERS_MOST;
+use trial::Shape;
 use trial::first_of;
 ghost use mathlib.Core.Path.{_≡_};
-ghost use mathlib.Core.List.{[]};
-ghost use Prim.Native.Nat.{_+_, _<_, _≤_};
-ghost use lib.ListN.{drop};
-ghost use Rattle.refusals.specs.Answers.{firstRefusal};
-ghost use Rattle.trial.specs.Refusals.{among};
-ghost use Rattle.trialfile.specs.Words.{wordsOf, word};
-ghost use Rattle.trialfile.specs.Internal.{earlierCodes};
-ghost use Rattle.trialfile.specs.Files.{badLength, levelPlace, shapePlace, offerPlace, offerPlaces, differencePlace, differencePlaces, endPlace, bodyPlaces, fileRefusal};
+ghost use Prim.Native.Nat.{_<_, _≤_};
+ghost use Rattle.limits.specs.Limits.{offersMost, pairsMost, figuresMost, longestFile};
+ghost use Rattle.refusals.specs.Answers.{placesFrom, firstRefusal};
+ghost use Rattle.trial.specs.Designs.{unitsOf};
+ghost use Rattle.trial.specs.Refusals.{among, earlier};
+ghost use Rattle.words.specs.Words.{wordsOf};
+ghost use Rattle.trialfile.specs.Files.{codeIn, badLength, levelPlace, shapePlace, offerPlace, figurePlace, endPlace, bodyPlaces, fileRefusal};
 
 // the condition of 1
 fn bad_length(file: &[u8]) -> bool
@@ -21,76 +24,74 @@ fn bad_length(file: &[u8]) -> bool
     if file.len() % 4 != 0 {
         return true;
     }
-    file.len() > 652
+    file.len() > LONGEST_FILE
+}
+
+// of the level: the kind before the value
+fn judge_level(w: u32) -> u32
+    ensures { λ r. ⌜ r ≡ firstRefusal (levelPlace w) ⌝ }
+{
+    let other = words::kind_of(w) != 1;
+    let level = words::level_of(w);
+    let bad = refusals::bad_level(level.a, level.b);
+    let three = first_of(bad, 3, 0);
+    first_of(other, 2, three)
+}
+
+// of the shape: the kind before the value, and what its layout adds
+fn judge_shape(w: u32) -> u32
+    ensures { λ r. ⌜ r ≡ firstRefusal (shapePlace w) ⌝ }
+{
+    let other = words::kind_of(w) != 2;
+    let shape = words::shape_of(w);
+    let counts = refusals::bad_columns(OFFERS_MOST, shape.offers, shape.k);
+    let spare = words::unused_of(w) != 0;
+    let design = shape.design;
+    let laid = trial::design_refusal(design);
+    let unused = first_of(spare, 4, laid);
+    let four = first_of(counts, 4, unused);
+    first_of(other, 2, four)
 }
 
 // the condition of 6: one of the first n offers has the number
-fn seen(file: &[u8], n: usize, code: u32) -> bool
-    requires { ⌜ n ≤ 16 ⌝ }
-    ensures { λ r. ⌜ r ≡ among code (earlierCodes (wordsOf (now (file .entry))) n) ⌝ }
+fn seen(file: &[u8], l: Layout, n: usize, code: u32) -> bool
+    requires { ⌜ (n ≤ offersMost) × (l .offers ≤ longestFile) ⌝ }
+    ensures { λ r. ⌜ r ≡ among code (earlier (codeIn (wordsOf (now (file .entry))) l) n) ⌝ }
 {
     let mut i = n;
     while 0 < i {
         i -= 1;
-        let earlier = word::word_at(file, 2 + i);
-        if code == earlier % 16777216 {
+        let earlier = words::word_at(file, l.offers + i * layout::WORDS_PER_OFFER);
+        if code == words::code_of(earlier) {
             return true;
         }
     }
     false
 }
 
-// of the level: the kind before the value
-fn judge_level(file: &[u8]) -> u32
-    ensures { λ r. ⌜ r ≡ firstRefusal (levelPlace (word (wordsOf (now (file .entry))) 0)) ⌝ }
-{
-    let w = word::word_at(file, 0);
-    let other = w / 268435456 != 1;
-    let bad = refusals::bad_level((w / 16384 % 16384) as usize, (w % 16384) as usize);
-    let three = first_of(bad, 3, 0);
-    first_of(other, 2, three)
-}
-
-// of the shape: the kind before the value
-fn judge_shape(file: &[u8]) -> u32
-    ensures { λ r. ⌜ r ≡ firstRefusal (shapePlace (word (wordsOf (now (file .entry))) 1)) ⌝ }
-{
-    let w = word::word_at(file, 1);
-    let other = w / 268435456 != 2;
-    let counts = trial::bad_counts(
-        (w / 65536 % 256) as usize,
-        (w / 256 % 256) as usize,
-        (w % 256) as usize,
-    );
-    let unused = w / 16777216 % 16 != 0;
-    let spare = first_of(unused, 4, 0);
-    let four = first_of(counts, 4, spare);
-    first_of(other, 2, four)
-}
-
 // of offer i: the kind before the value, and 5 before 6
-fn judge_offer(file: &[u8], i: usize) -> u32
-    requires { ⌜ i < 16 ⌝ }
-    ensures { λ r. ⌜ r ≡ firstRefusal (offerPlace (earlierCodes (wordsOf (now (file .entry))) i) (word (wordsOf (now (file .entry))) (2 + i))) ⌝ }
+fn judge_offer(file: &[u8], l: Layout, i: usize) -> u32
+    requires { ⌜ (i < offersMost) × (l .offers ≤ longestFile) ⌝ }
+    ensures { λ r. ⌜ r ≡ firstRefusal (offerPlace (wordsOf (now (file .entry))) l i) ⌝ }
 {
-    let w = word::word_at(file, 2 + i);
-    let code = w % 16777216;
-    let other = w / 268435456 != 3;
-    let unprintable = trial::bad_digits(code, (w / 16777216 % 16) as usize);
-    let repeated = seen(file, i, code);
+    let w = words::word_at(file, l.offers + i * layout::WORDS_PER_OFFER);
+    let code = words::code_of(w);
+    let other = words::kind_of(w) != 3;
+    let unprintable = trial::bad_digits(code, words::digits_of(w) as usize);
+    let repeated = seen(file, l, i, code);
     let six = first_of(repeated, 6, 0);
     let five = first_of(unprintable, 5, six);
     first_of(other, 2, five)
 }
 
 // of n offers
-fn judge_offers(file: &[u8], n: usize) -> u32
-    requires { ⌜ n ≤ 16 ⌝ }
-    ensures { λ r. ⌜ r ≡ firstRefusal (offerPlaces [] n (drop 2 (wordsOf (now (file .entry))))) ⌝ }
+fn judge_offers(file: &[u8], l: Layout, n: usize) -> u32
+    requires { ⌜ (n ≤ offersMost) × (l .offers ≤ longestFile) ⌝ }
+    ensures { λ r. ⌜ r ≡ firstRefusal (placesFrom (offerPlace (wordsOf (now (file .entry))) l) 0 n) ⌝ }
 {
     let mut i: usize = 0;
     while i < n {
-        let r = judge_offer(file, i);
+        let r = judge_offer(file, l, i);
         if r != 0 {
             return r;
         }
@@ -99,24 +100,26 @@ fn judge_offers(file: &[u8], n: usize) -> u32
     0
 }
 
-// of a difference: the kind before the value
-fn judge_difference(w: u32) -> u32
-    ensures { λ r. ⌜ r ≡ firstRefusal (differencePlace w) ⌝ }
+// of figure i: the kind before the value
+fn judge_figure(file: &[u8], l: Layout, i: usize) -> u32
+    requires { ⌜ (i < figuresMost) × (l .figures ≤ longestFile) ⌝ }
+    ensures { λ r. ⌜ r ≡ firstRefusal (figurePlace (wordsOf (now (file .entry))) l i) ⌝ }
 {
-    let other = w / 268435456 != 4;
-    let beyond = trial::bad_difference(word::difference_of(w));
+    let w = words::word_at(file, l.figures + i);
+    let other = words::kind_of(w) != 4;
+    let beyond = trial::bad_difference(words::difference_of(w));
     let seven = first_of(beyond, 7, 0);
     first_of(other, 2, seven)
 }
 
-// of n differences that stand after the first `from` words
-fn judge_differences(file: &[u8], from: usize, n: usize) -> u32
-    requires { ⌜ (from ≤ 18) × (n ≤ 144) ⌝ }
-    ensures { λ r. ⌜ r ≡ firstRefusal (differencePlaces n (drop from (wordsOf (now (file .entry))))) ⌝ }
+// of n figures
+fn judge_figures(file: &[u8], l: Layout, n: usize) -> u32
+    requires { ⌜ (n ≤ figuresMost) × (l .figures ≤ longestFile) ⌝ }
+    ensures { λ r. ⌜ r ≡ firstRefusal (placesFrom (figurePlace (wordsOf (now (file .entry))) l) 0 n) ⌝ }
 {
     let mut i: usize = 0;
     while i < n {
-        let r = judge_difference(word::word_at(file, from + i));
+        let r = judge_figure(file, l, i);
         if r != 0 {
             return r;
         }
@@ -127,12 +130,12 @@ fn judge_differences(file: &[u8], from: usize, n: usize) -> u32
 
 // of the end after n words
 fn judge_end(file: &[u8], n: usize) -> u32
-    requires { ⌜ n ≤ 162 ⌝ }
-    ensures { λ r. ⌜ r ≡ firstRefusal (endPlace n (drop n (wordsOf (now (file .entry))))) ⌝ }
+    requires { ⌜ n ≤ longestFile ⌝ }
+    ensures { λ r. ⌜ r ≡ firstRefusal (endPlace (wordsOf (now (file .entry))) n) ⌝ }
 {
-    let w = word::word_at(file, n);
-    let other = w / 268435456 != 15;
-    let wrong = (w % 268435456) as usize != n;
+    let w = words::word_at(file, n);
+    let other = words::kind_of(w) != 15;
+    let wrong = words::count_of(w) != n;
     let after = file.len() / 4 > n + 1;
     let surplus = first_of(after, 8, 0);
     let eight = first_of(wrong, 8, surplus);
@@ -140,20 +143,20 @@ fn judge_end(file: &[u8], n: usize) -> u32
 }
 
 // of the words after the shape
-fn judge_body(file: &[u8], offers: usize, pairs: usize) -> u32
-    requires { ⌜ (offers ≤ 16) × (pairs ≤ 9) ⌝ }
-    ensures { λ r. ⌜ r ≡ firstRefusal (bodyPlaces offers pairs (wordsOf (now (file .entry)))) ⌝ }
+fn judge_body(file: &[u8], shape: Shape) -> u32
+    requires { ⌜ (shape .offers ≤ offersMost) × (unitsOf (shape .design) ≤ pairsMost) ⌝ }
+    ensures { λ r. ⌜ r ≡ firstRefusal (bodyPlaces (wordsOf (now (file .entry))) shape) ⌝ }
 {
-    let n = offers * pairs;
-    let o = judge_offers(file, offers);
+    let l = layout::of_shape(shape);
+    let o = judge_offers(file, l, shape.offers);
     if o != 0 {
         return o;
     }
-    let d = judge_differences(file, 2 + offers, n);
+    let d = judge_figures(file, l, l.end - l.figures);
     if d != 0 {
         return d;
     }
-    judge_end(file, 2 + offers + n)
+    judge_end(file, l.end)
 }
 
 // of a whole file: 1 first, then the words from the start
@@ -163,14 +166,14 @@ pub(crate) fn judge(file: &[u8]) -> u32
     if bad_length(file) {
         return 1;
     }
-    let l = judge_level(file);
+    let l = judge_level(words::word_at(file, layout::LEVEL_AT));
     if l != 0 {
         return l;
     }
-    let s = judge_shape(file);
+    let w = words::word_at(file, layout::SHAPE_AT);
+    let s = judge_shape(w);
     if s != 0 {
         return s;
     }
-    let w = word::word_at(file, 1);
-    judge_body(file, (w / 256 % 256) as usize, (w % 256) as usize)
+    judge_body(file, words::shape_of(w))
 }

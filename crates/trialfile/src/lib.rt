@@ -1,7 +1,8 @@
-// Trial files: a reader and a writer. The definitions are in specs/, their laws in proofs/.
+// Trial files: a reader and a writer, over one layout. The definitions are in specs/, their laws in proofs/.
 mod judging; // what a file is turned away for
+mod layout; // where the parts of a file stand
 mod reader; // the trial of an accepted file
-mod word; // a word: out of bytes, and made of the values of its kind
+mod word; // a word, made of the values of its kind
 mod writer; // the file of an accepted trial
 
 use trial::Trial;
@@ -47,16 +48,15 @@ pub fn write(t: Trial, out: &mut [u8]) -> Writing
     if refusal != 0 {
         return Writing { refusal, length: 0 };
     }
-    let n = writer::word_count(t);
-    if out.len() < 4 * n {
+    let shape = t.shape;
+    let l = layout::of_shape(shape);
+    let length = 4 * (l.end + 1);
+    if out.len() < length {
         return Writing {
             refusal: 12,
             length: 0,
         };
     }
-    writer::write_words(t, n, out);
-    Writing {
-        refusal: 0,
-        length: 4 * n,
-    }
+    writer::write_words(t, l, out);
+    Writing { refusal: 0, length }
 }

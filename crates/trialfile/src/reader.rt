@@ -1,51 +1,52 @@
 // The trial that an accepted file holds, read off by position.
-use super::word;
+use super::layout;
+use layout::Layout;
+use limits::FIGURES_MOST;
+use limits::OFFERS_MOST;
+use trial::Design;
+use trial::Labels;
+use trial::Level;
+use trial::Shape;
 use trial::Trial;
 ghost use mathlib.Core.Path.{_≡_};
-ghost use mathlib.Core.List.{map};
-ghost use Prim.Native.Nat.{_+_, _≤_};
-ghost use lib.ListN.{length, take, drop};
+ghost use Prim.Native.Nat.{_≤_};
 ghost use lib.IntN.{pos};
-ghost use Rattle.order.specs.Lists.{padded};
-ghost use Rattle.trialfile.specs.Words.{wordsOf, codeOf, digitsOf, differenceOf};
-ghost use Rattle.trialfile.specs.Files.{blank, trialOf, fileRefusal};
+ghost use Rattle.limits.specs.Limits.{offersMost, figuresMost, longestFile};
+ghost use Rattle.order.specs.Lists.{tabulate, padded};
+ghost use Rattle.trial.specs.Record.{blank};
+ghost use Rattle.words.specs.Words.{wordsOf};
+ghost use Rattle.trialfile.specs.Files.{codeIn, digitsIn, figureIn, trialOf, fileRefusal};
 
-// The numbers and the printed digits of offers, as a trial holds them.
-pub struct Offers {
-    pub codes: [u32; 16],
-    pub digits: [u8; 16],
-}
-
-// n offers, which stand after the first two words
-fn read_offers(file: &[u8], n: usize) -> Offers
-    requires { ⌜ (n ≤ 16) × (n + 2 ≤ length (wordsOf (now file))) ⌝ }
-    ensures { λ r. ⌜ (r .codes ≡ padded 16 0 (map codeOf (take n (drop 2 (wordsOf (now (file .entry))))))) × (r .digits ≡ padded 16 0 (map digitsOf (take n (drop 2 (wordsOf (now (file .entry))))))) ⌝ }
+// the labels of n offers
+fn read_labels(file: &[u8], l: Layout, n: usize) -> Labels
+    requires { ⌜ (n ≤ offersMost) × (l .offers ≤ longestFile) ⌝ }
+    ensures { λ r. ⌜ (r .codes ≡ padded offersMost 0 (tabulate n (codeIn (wordsOf (now (file .entry))) l))) × (r .digits ≡ padded offersMost 0 (tabulate n (digitsIn (wordsOf (now (file .entry))) l))) ⌝ }
 {
-    let mut codes = [0u32; 16];
-    let mut digits = [0u8; 16];
+    let mut codes = [0u32; OFFERS_MOST];
+    let mut digits = [0u8; OFFERS_MOST];
     let mut i: usize = 0;
     while i < n {
-        let w = word::word_at(file, 2 + i);
-        codes[i] = w % 16777216;
-        digits[i] = (w / 16777216 % 16) as u8;
+        let w = words::word_at(file, l.offers + i * layout::WORDS_PER_OFFER);
+        codes[i] = words::code_of(w);
+        digits[i] = words::digits_of(w);
         i += 1;
     }
-    Offers { codes, digits }
+    Labels { codes, digits }
 }
 
-// n differences that stand after the first `from` words
-fn read_differences(file: &[u8], from: usize, n: usize) -> [i32; 144]
-    requires { ⌜ (from ≤ 18) × (n ≤ 144) × (from + n ≤ length (wordsOf (now file))) ⌝ }
-    ensures { λ r. ⌜ r ≡ padded 144 (pos 0) (map differenceOf (take n (drop from (wordsOf (now (file .entry)))))) ⌝ }
+// n figures
+fn read_figures(file: &[u8], l: Layout, n: usize) -> [i32; FIGURES_MOST]
+    requires { ⌜ (n ≤ figuresMost) × (l .figures ≤ longestFile) ⌝ }
+    ensures { λ r. ⌜ r ≡ padded figuresMost (pos 0) (tabulate n (figureIn (wordsOf (now (file .entry))) l)) ⌝ }
 {
-    let mut differences = [0i32; 144];
+    let mut figures = [0i32; FIGURES_MOST];
     let mut i: usize = 0;
     while i < n {
-        let w = word::word_at(file, from + i);
-        differences[i] = word::difference_of(w);
+        let w = words::word_at(file, l.figures + i);
+        figures[i] = words::difference_of(w);
         i += 1;
     }
-    differences
+    figures
 }
 
 // the trial that an accepted file holds
@@ -53,36 +54,36 @@ pub(crate) fn read_trial(file: &[u8]) -> Trial
     requires { ⌜ fileRefusal (now file) ≡ 0 ⌝ }
     ensures { λ r. ⌜ r ≡ trialOf (wordsOf (now (file .entry))) ⌝ }
 {
-    let level = word::word_at(file, 0);
-    let shape = word::word_at(file, 1);
-    let offers = (shape / 256 % 256) as usize;
-    let pairs = (shape % 256) as usize;
-    let printed = read_offers(file, offers);
-    let codes = printed.codes;
-    let digits = printed.digits;
+    let level = words::level_of(words::word_at(file, layout::LEVEL_AT));
+    let shape = words::shape_of(words::word_at(file, layout::SHAPE_AT));
+    let l = layout::of_shape(shape);
+    let labels = read_labels(file, l, shape.offers);
+    let figures = read_figures(file, l, l.end - l.figures);
     Trial {
-        a: (level / 16384 % 16384) as usize,
-        b: (level % 16384) as usize,
-        k: (shape / 65536 % 256) as usize,
-        offers,
-        pairs,
-        codes,
-        digits,
-        differences: read_differences(file, 2 + offers, offers * pairs),
+        level,
+        shape,
+        labels,
+        figures,
     }
 }
 
 pub(crate) fn blank_trial() -> Trial
     ensures { λ r. ⌜ r ≡ blank ⌝ }
 {
-    Trial {
-        a: 0,
-        b: 0,
+    let level = Level { a: 0, b: 0 };
+    let shape = Shape {
         k: 0,
         offers: 0,
-        pairs: 0,
-        codes: [0u32; 16],
-        digits: [0u8; 16],
-        differences: [0i32; 144],
+        design: Design::Paired(0),
+    };
+    let labels = Labels {
+        codes: [0u32; OFFERS_MOST],
+        digits: [0u8; OFFERS_MOST],
+    };
+    Trial {
+        level,
+        shape,
+        labels,
+        figures: [0i32; FIGURES_MOST],
     }
 }

@@ -1,16 +1,20 @@
 // The file of an accepted trial, word by word into a lent buffer.
+use super::layout;
 use super::word;
+use layout::Layout;
 use trial::Trial;
 ghost use mathlib.Core.Path.{_≡_};
-ghost use Prim.Native.Nat.{_+_, _*_, _<_, _≤_};
-ghost use lib.ListN.{length};
+ghost use Prim.Native.Nat.{ℕ, _+_, _*_, _<_, _≤_};
+ghost use lib.ListN.{length, getD};
+ghost use lib.IntN.{pos, natAbs};
 ghost use lib.Seq.{sets};
+ghost use Rattle.limits.specs.Limits.{offersMost, figuresMost, longestFile, digitsMost, differenceMost};
 ghost use Rattle.refusals.specs.Buffers.{written};
 ghost use Rattle.trial.specs.Record.{ArrayLengths};
-ghost use Rattle.trial.specs.Refusals.{trialRefusal};
-ghost use Rattle.trialfile.specs.Words.{wordBytes, word};
-ghost use Rattle.trialfile.specs.Files.{wordsBefore};
-ghost use Rattle.trialfile.specs.Writings.{fileWords, fileOf};
+ghost use Rattle.trial.specs.Refusals.{nth, trialRefusal};
+ghost use Rattle.words.specs.Words.{wordBytes, bytesOf};
+ghost use Rattle.trialfile.specs.Layouts.{layoutOf};
+ghost use Rattle.trialfile.specs.Writings.{offerWords, figureWords, fileOf, fileLength};
 
 fn put_word(out: &mut [u8], i: usize, w: u32)
     requires { ⌜ (i < 65536) × (4 * i + 4 ≤ length (now out)) ⌝ }
@@ -23,45 +27,51 @@ fn put_word(out: &mut [u8], i: usize, w: u32)
     out[at + 3] = (w / 16777216) as u8;
 }
 
-// the word at place i of an accepted trial's file
-fn word_of(t: Trial, i: usize) -> u32
-    requires { ⌜ (ArrayLengths t) × (trialRefusal t ≡ 0) × (i ≤ wordsBefore t) ⌝ }
-    ensures { λ r. ⌜ r ≡ word (fileWords t) i ⌝ }
+// the words of n offers, from the place `at` on
+fn write_offers(codes: &[u32], digits: &[u8], n: usize, at: usize, out: &mut [u8])
+    requires { ⌜ (n ≤ offersMost) × (n ≤ length (now codes)) × (n ≤ length (now digits)) × (at ≤ longestFile) × (4 * (at + n) ≤ length (now out)) × ((i : ℕ) → i < n → (getD (now codes) i 0 < 16777216) × (getD (now digits) i 0 ≤ digitsMost)) ⌝ }
+    ensures { λ _. ⌜ now (out .exit) ≡ sets (now (out .entry)) (4 * at) (bytesOf (offerWords (nth (now (codes .entry)) 0) (nth (now (digits .entry)) 0) n)) ⌝ }
 {
-    if i == 0 {
-        return word::level_word(t.a, t.b);
+    let mut i: usize = 0;
+    while i < n {
+        let w = word::offer_word(codes[i], digits[i]);
+        put_word(out, at + i, w);
+        i += 1;
     }
-    if i == 1 {
-        return word::shape_word(t.k, t.offers, t.pairs);
-    }
-    let j = i - 2;
-    if j < t.offers {
-        return word::offer_word(t.codes[j], t.digits[j]);
-    }
-    let m = j - t.offers;
-    if m < t.offers * t.pairs {
-        return word::difference_word(t.differences[m]);
-    }
-    4026531840 + (i as u32)
 }
 
-// the n words of an accepted trial's file into the buffer's first places
-pub(crate) fn write_words(t: Trial, n: usize, out: &mut [u8])
-    requires { ⌜ (ArrayLengths t) × (trialRefusal t ≡ 0) × (n ≡ wordsBefore t + 1) × (4 * n ≤ length (now out)) ⌝ }
+// the words of n figures, from the place `at` on
+fn write_figures(figures: &[i32], n: usize, at: usize, out: &mut [u8])
+    requires { ⌜ (n ≤ figuresMost) × (n ≤ length (now figures)) × (at ≤ longestFile) × (4 * (at + n) ≤ length (now out)) × ((i : ℕ) → i < n → natAbs (getD (now figures) i (pos 0)) ≤ differenceMost) ⌝ }
+    ensures { λ _. ⌜ now (out .exit) ≡ sets (now (out .entry)) (4 * at) (bytesOf (figureWords (nth (now (figures .entry)) (pos 0)) n)) ⌝ }
+{
+    let mut i: usize = 0;
+    while i < n {
+        let w = word::difference_word(figures[i]);
+        put_word(out, at + i, w);
+        i += 1;
+    }
+}
+
+// the words of an accepted trial's file into the buffer's first places
+pub(crate) fn write_words(t: Trial, l: Layout, out: &mut [u8])
+    requires { ⌜ (ArrayLengths t) × (trialRefusal t ≡ 0) × (l ≡ layoutOf (t .shape)) × (fileLength t ≤ length (now out)) ⌝ }
     ensures { λ _. ⌜ now (out .exit) ≡ written (fileOf t) (now (out .entry)) ⌝ }
 {
-    let mut at: usize = 0;
-    while at < n {
-        let w = word_of(t, at);
-        put_word(out, at, w);
-        at += 1;
-    }
-}
-
-// how many words an accepted trial's file has
-pub(crate) fn word_count(t: Trial) -> usize
-    requires { ⌜ trialRefusal t ≡ 0 ⌝ }
-    ensures { λ r. ⌜ (r ≡ wordsBefore t + 1) × (r ≤ 163) ⌝ }
-{
-    3 + t.offers + t.offers * t.pairs
+    let level = t.level;
+    let shape = t.shape;
+    let design = shape.design;
+    let labels = t.labels;
+    let codes = labels.codes;
+    let digits = labels.digits;
+    let figures = t.figures;
+    put_word(out, layout::LEVEL_AT, word::level_word(level.a, level.b));
+    put_word(
+        out,
+        layout::SHAPE_AT,
+        word::shape_word(shape.k, shape.offers, design),
+    );
+    write_offers(&codes, &digits, shape.offers, l.offers, out);
+    write_figures(&figures, l.end - l.figures, l.figures, out);
+    put_word(out, l.end, word::end_word(l.end));
 }

@@ -12,7 +12,6 @@ use mathlib.Core.List.{List, [], _∷_, _++_}
 use lib.ListN.{length, take, drop}
 use lib.Seq.{take-at}
 use lib.Dec.{T, eqb}
-use lib.Pow.{pow-mono}
 use lib.Ieee.{Float}
 use borrow.Author.Tests.{le-ltb, lt-leb, eq-eqb}
 use Rattle.order.specs.Order.{finite}
@@ -21,6 +20,7 @@ use Rattle.order.specs.Lists.{joined}
 use Rattle.order.proofs.Booleans.{T-true, and-left, and-right, not-no}
 use Rattle.order.proofs.Counts.{all-append}
 use Rattle.order.proofs.Rows.{soundRow}
+use Rattle.limits.specs.Limits.{toleranceMost, trialRowsMost, trialTableMost}
 use Rattle.refusals.specs.Answers.{Checks, answer}
 use Rattle.refusals.specs.Buffers.{tooShort, written, cleared}
 use Rattle.refusals.specs.Limits.{badSizes, allowance}
@@ -50,30 +50,30 @@ joined-finite n [] h = tt
 joined-finite n (r ∷ rs) h = all-append finite r (joined rs) (and-right (eqb (length r) n) (all finite r) (and-left (soundRow n r) (all (soundRow n) rs) h)) (joined-finite n rs (and-right (soundRow n r) (all (soundRow n) rs) h))
 
 module _ (t : Trial) (a : Accepted t) where
-  rows-most : rowTotal t ≤ 512
+  rows-most : rowTotal t ≤ trialRowsMost
   unfolding rowTotal
-  rows-most = pow-mono (a .pairs-most)
+  rows-most = a .laid .rows-most
 
-  shape-good : badShape (rowTotal t) (t .offers) (t .k) ≡ false
+  shape-good : badShape (rowTotal t) (t .shape .offers) (t .shape .k) ≡ false
   unfolding badSizes
   shape-good =
       neither (within 1 4096 (rowTotal t) (rowTotal-some t) (omega (arith, rows-most)))
-      (neither (within 1 32 (t .offers) (a .offers-some) (omega (arith, a .offers-most))) (neither (within 1 4 (t .k) (a .k-some) (a .k-most)) (le-ltb (t .offers) (t .k) (a .k-held))))
+      (neither (within 1 32 (t .shape .offers) (a .offers-some) (omega (arith, a .offers-most))) (neither (within 1 toleranceMost (t .shape .k) (a .k-some) (a .k-most)) (le-ltb (t .shape .offers) (t .shape .k) (a .k-held))))
 
   values-good : badValue (tableOf t) ≡ false
   unfolding badValue tableOf
-  values-good = ap not (T-true (all finite (tableOf t)) (joined-finite (t .offers) (trialRows t) (trialRows-sound t a)))
+  values-good = ap not (T-true (all finite (tableOf t)) (joined-finite (t .shape .offers) (trialRows t) (trialRows-sound t a)))
 
-  pub table-accepted : tableRefusal (tableOf t) (rowTotal t) (t .offers) (t .k) (t .a) (t .b) 0 ≡ 0
+  pub table-accepted : tableRefusal (tableOf t) (rowTotal t) (t .shape .offers) (t .shape .k) (t .level .a) (t .level .b) 0 ≡ 0
   unfolding tableRefusal tableChecks
   table-accepted =
-      none-first (tableChecks (tableOf t) (rowTotal t) (t .offers) (t .k) (t .a) (t .b) 0)
-      (shape-good, (a .level-good, (not-no _ (eq-eqb (length (tableOf t)) (rowTotal t * t .offers) (tableOf-length t)), (lt-leb (rowTotal t) 0 (rowTotal-some t), (values-good, tt)))))
+      none-first (tableChecks (tableOf t) (rowTotal t) (t .shape .offers) (t .shape .k) (t .level .a) (t .level .b) 0)
+      (shape-good, (a .level-good, (not-no _ (eq-eqb (length (tableOf t)) (rowTotal t * t .shape .offers) (tableOf-length t)), (lt-leb (rowTotal t) 0 (rowTotal-some t), (values-good, tt)))))
 
-  pub table-runs : (places : ℕ) → rowTotal t ≤ places → tableRunRefusal (tableOf t) (rowTotal t) (t .offers) (t .k) (t .a) (t .b) 0 places ≡ 0
+  pub table-runs : (places : ℕ) → rowTotal t ≤ places → tableRunRefusal (tableOf t) (rowTotal t) (t .shape .offers) (t .shape .k) (t .level .a) (t .level .b) 0 places ≡ 0
   unfolding tableRunRefusal tableRefusal tableChecks all
   table-runs places h =
-      first-passes (tableChecks (tableOf t) (rowTotal t) (t .offers) (t .k) (t .a) (t .b) 0) (tooShort places (rowTotal t)) 0 (sym table-accepted) refl
+      first-passes (tableChecks (tableOf t) (rowTotal t) (t .shape .offers) (t .shape .k) (t .level .a) (t .level .b) 0) (tooShort places (rowTotal t)) 0 (sym table-accepted) refl
       ∙ none-first (tooShort places (rowTotal t)) (le-ltb places (rowTotal t) h, tt)
 
 -- ---- what the call gives
@@ -84,24 +84,24 @@ module _ (t : Trial) (s : TableSize) (q : s ≡ sizeOf t) where
 
   module _ {A : Type 0} (done : A) (refusing : ℕ → A) (places work : ℕ) where
     abbrev rooms : Checks
-    rooms = tooShort places (rowTotal t * t .offers) ++ tooShort work (rowTotal t)
+    rooms = tooShort places (rowTotal t * t .shape .offers) ++ tooShort work (rowTotal t)
 
     pub run-turned : (s .refusal ≡ 0 → ⊥) → refusing (s .refusal) ≡ answer (runCallChecks t places work) done refusing
     run-turned f = turned-away done refusing t rooms (s .refusal) (told .refusal-is) f
 
     module _ (z : s .refusal ≡ 0) where
-      total-is : s .rows * s .columns ≡ rowTotal t * t .offers
+      total-is : s .rows * s .columns ≡ rowTotal t * t .shape .offers
       total-is = ap₂ (λ (m n : ℕ). m * n) (told .rows-are z) (told .columns-are z)
 
       past : answer rooms done refusing ≡ answer (runCallChecks t places work) done refusing
       past = passed-on done refusing t rooms (s .refusal) (told .refusal-is) z
 
       pub run-short : places < s .rows * s .columns → refusing 12 ≡ answer (runCallChecks t places work) done refusing
-      run-short h = lent-short (answer (tooShort work (rowTotal t)) done refusing) refusing places (rowTotal t * t .offers) (omega (arith, total-is)) ∙ sym (answer-append (tooShort places (rowTotal t * t .offers)) (tooShort work (rowTotal t)) done refusing) ∙ past
+      run-short h = lent-short (answer (tooShort work (rowTotal t)) done refusing) refusing places (rowTotal t * t .shape .offers) (omega (arith, total-is)) ∙ sym (answer-append (tooShort places (rowTotal t * t .shape .offers)) (tooShort work (rowTotal t)) done refusing) ∙ past
 
       module _ (h : s .rows * s .columns ≤ places) where
         second : answer (tooShort work (rowTotal t)) done refusing ≡ answer (runCallChecks t places work) done refusing
-        second = lent-enough (answer (tooShort work (rowTotal t)) done refusing) refusing places (rowTotal t * t .offers) (omega (arith, total-is)) ∙ sym (answer-append (tooShort places (rowTotal t * t .offers)) (tooShort work (rowTotal t)) done refusing) ∙ past
+        second = lent-enough (answer (tooShort work (rowTotal t)) done refusing) refusing places (rowTotal t * t .shape .offers) (omega (arith, total-is)) ∙ sym (answer-append (tooShort places (rowTotal t * t .shape .offers)) (tooShort work (rowTotal t)) done refusing) ∙ past
 
         pub run-cramped : work < s .rows → refusing 12 ≡ answer (runCallChecks t places work) done refusing
         run-cramped l = lent-short done refusing work (rowTotal t) (omega (arith, told .rows-are z)) ∙ second
@@ -135,17 +135,17 @@ module _ (t : Trial) (s : TableSize) (q : s ≡ sizeOf t) where
     pub good : Accepted t
     good = known t (s .refusal) (told .refusal-is) z
 
-    pub total-fits : s .rows * s .columns ≤ 8192
+    pub total-fits : s .rows * s .columns ≤ trialTableMost
     unfolding rowTotal
-    total-fits = omega (arith, ap₂ (λ (m n : ℕ). m * n) (told .rows-are z) (told .columns-are z), total-most t (rowTotal t) refl (good .pairs-most) (good .offers-most))
+    total-fits = omega (arith, ap₂ (λ (m n : ℕ). m * n) (told .rows-are z) (told .columns-are z), total-most t good)
 
     module _ (table : List Float) (h : s .rows * s .columns ≤ length table) (w : List Float) (e : w ≡ tableBuffer t table) where
-      same-total : s .rows * s .columns ≡ rowTotal t * t .offers
+      same-total : s .rows * s .columns ≡ rowTotal t * t .shape .offers
       same-total = ap₂ (λ (m n : ℕ). m * n) (told .rows-are z) (told .columns-are z)
 
       filled : w ≡ written (tableOf t) table
       unfolding tableBuffer tableCallChecks
-      filled = e ∙ sym (lent-enough (written (tableOf t) table) (λ _. table) (length table) (rowTotal t * t .offers) (omega (arith, same-total)) ∙ passed-on (written (tableOf t) table) (λ _. table) t (tooShort (length table) (rowTotal t * t .offers)) (s .refusal) (told .refusal-is) z)
+      filled = e ∙ sym (lent-enough (written (tableOf t) table) (λ _. table) (length table) (rowTotal t * t .shape .offers) (omega (arith, same-total)) ∙ passed-on (written (tableOf t) table) (λ _. table) t (tooShort (length table) (rowTotal t * t .shape .offers)) (s .refusal) (told .refusal-is) z)
 
       pub table-filled : (work : ℕ) → s .rows ≤ work → w ≡ runTable t table work
       unfolding runTable
@@ -155,28 +155,28 @@ module _ (t : Trial) (s : TableSize) (q : s ≡ sizeOf t) where
       front = ap (take (s .rows * s .columns)) filled ∙ take-at (tableOf t) (drop (length (tableOf t)) table) (s .rows * s .columns) (tableOf-length t ∙ sym same-total)
 
       module _ (work : List Float) (l : s .rows ≤ length work) where
-        free : tableRunRefusal (tableOf t) (rowTotal t) (t .offers) (t .k) (t .a) (t .b) 0 (length work) ≡ 0
+        free : tableRunRefusal (tableOf t) (rowTotal t) (t .shape .offers) (t .shape .k) (t .level .a) (t .level .b) 0 (length work) ≡ 0
         free = table-runs t good (length work) (omega (arith, told .rows-are z))
 
-        moved : {A : Type 0} (f : List Float → ℕ → ℕ → A) → f (take (s .rows * s .columns) w) (s .rows) (s .columns) ≡ f (tableOf t) (rowTotal t) (t .offers)
+        moved : {A : Type 0} (f : List Float → ℕ → ℕ → A) → f (take (s .rows * s .columns) w) (s .rows) (s .columns) ≡ f (tableOf t) (rowTotal t) (t .shape .offers)
         moved f = ap₂ (λ (x : List Float) (m : ℕ). f x m (s .columns)) front (told .rows-are z) ∙ ap (f (tableOf t) (rowTotal t)) (told .columns-are z)
 
-        pub trial-run : (r : FullRun) → r ≡ fullAnswer (take (s .rows * s .columns) w) (s .rows) (s .columns) (t .k) (t .a) (t .b) 0 (length work) → r ≡ trialAnswer t (length table) (length work)
+        pub trial-run : (r : FullRun) → r ≡ fullAnswer (take (s .rows * s .columns) w) (s .rows) (s .columns) (t .shape .k) (t .level .a) (t .level .b) 0 (length work) → r ≡ trialAnswer t (length table) (length work)
         unfolding trialAnswer fullAnswer trialRun tableRunRefusal
         trial-run r v =
-            v ∙ moved (λ x m n. fullAnswer x m n (t .k) (t .a) (t .b) 0 (length work))
-            ∙ sym (accepted (acceptedRun (trialRun t)) refusedRun (tableRunChecks (tableOf t) (rowTotal t) (t .offers) (t .k) (t .a) (t .b) 0 (length work)) 0 (sym free) refl)
+            v ∙ moved (λ x m n. fullAnswer x m n (t .shape .k) (t .level .a) (t .level .b) 0 (length work))
+            ∙ sym (accepted (acceptedRun (trialRun t)) refusedRun (tableRunChecks (tableOf t) (rowTotal t) (t .shape .offers) (t .shape .k) (t .level .a) (t .level .b) 0 (length work)) 0 (sym free) refl)
             ∙ run-free (acceptedRun (trialRun t)) refusedRun (length table) (length work) z h l
 
-        pub trial-work : (v : List Float) → v ≡ fullWork (take (s .rows * s .columns) w) (s .rows) (s .columns) (t .k) (t .a) (t .b) 0 work → v ≡ runWork t (length table) work
+        pub trial-work : (v : List Float) → v ≡ fullWork (take (s .rows * s .columns) w) (s .rows) (s .columns) (t .shape .k) (t .level .a) (t .level .b) 0 work → v ≡ runWork t (length table) work
         unfolding fullWork runWork tableRunRefusal
         trial-work v q =
-            q ∙ moved (λ x m n. fullWork x m n (t .k) (t .a) (t .b) 0 work)
-            ∙ sym (accepted (cleared (rowTotal t) work) (λ _. work) (tableRunChecks (tableOf t) (rowTotal t) (t .offers) (t .k) (t .a) (t .b) 0 (length work)) 0 (sym free) refl)
+            q ∙ moved (λ x m n. fullWork x m n (t .shape .k) (t .level .a) (t .level .b) 0 work)
+            ∙ sym (accepted (cleared (rowTotal t) work) (λ _. work) (tableRunChecks (tableOf t) (rowTotal t) (t .shape .offers) (t .shape .k) (t .level .a) (t .level .b) 0 (length work)) 0 (sym free) refl)
             ∙ run-free (cleared (rowTotal t) work) (λ _. work) (length table) (length work) z h l
 
 -- ---- the sizes that a full run tells
 
-pub run-sizes : (t : Trial) → let r = acceptedRun (trialRun t) in (r .rows ≡ rowTotal t) × (r .e ≡ allowance (rowTotal t) (t .a) (t .b))
+pub run-sizes : (t : Trial) → let r = acceptedRun (trialRun t) in (r .rows ≡ rowTotal t) × (r .e ≡ allowance (rowTotal t) (t .level .a) (t .level .b))
 unfolding acceptedRun trialRun tableRun fullRun
 run-sizes t = (refl, refl)

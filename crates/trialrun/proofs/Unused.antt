@@ -1,4 +1,4 @@
--- Places that the counts of a record don't use change nothing: two records that agree on the others have the same
+-- Places that the counts of a record don't use change nothing: two records of the same trial have the same
 --   run-same                         full run
 --   answer-same                      answer of a call for the full run
 --   runTable-same, runWork-same      buffers after it
@@ -11,22 +11,23 @@ use Rattle.refusals.specs.Answers.{Checks, answer, afterwards}
 use Rattle.refusals.specs.Buffers.{tooShort, written, cleared}
 use Rattle.runs.specs.Stepdown.{Outcome}
 use Rattle.runs.specs.FullRuns.{acceptedRun, refusedRun}
-use Rattle.trial.specs.Exchange.{rowTotal}
+use Rattle.runs.specs.Tables.{tableRun}
+use Rattle.trial.specs.Exchange.{rowTotal, tableOf}
 use Rattle.trial.specs.Refusals.{trialChecks}
-use Rattle.trial.specs.Used.{SameUsed}
+use Rattle.trial.specs.Record.{Contents, Same}
 use Rattle.trial.specs.declared.Trial.{Trial}
-use Rattle.trial.proofs.Unused.{checks-same, table-same, rows-same}
+use Rattle.trial.proofs.Unused.{offers-same, checks-same, table-same, rows-same}
 use Rattle.trialrun.specs.TrialRuns.{trialRun, runCallChecks, trialAnswer, runTable, runWork}
 
-module _ (t u : Trial) (s : SameUsed t u) where
+module _ (t u : Trial) (s : Same t u) where
   pub run-same : trialRun t ≡ trialRun u
   unfolding trialRun
-  run-same = rw (table-same t u s, rows-same t u s, s .offers-same, s .k-same, s .a-same, s .b-same)
+  run-same = ap₂ (λ (x : List Float) (m : ℕ). tableRun x m (t .shape .offers) (t .shape .k) (t .level .a) (t .level .b) 0) (table-same t u s) (rows-same t u s) ∙ ap (λ (c : Contents). tableRun (tableOf u) (rowTotal u) (c .setting .shape .offers) (c .setting .shape .k) (c .setting .level .a) (c .setting .level .b) 0) s
 
   asked-same : (places work : ℕ) → runCallChecks t places work ≡ runCallChecks u places work
   asked-same places work =
-      ap₂ (λ (cs : Checks) (m : ℕ). cs ++ (tooShort places (m * t .offers) ++ tooShort work m)) (checks-same t u s) (rows-same t u s)
-      ∙ ap (λ (n : ℕ). trialChecks u ++ (tooShort places (rowTotal u * n) ++ tooShort work (rowTotal u))) (s .offers-same)
+      ap₂ (λ (cs : Checks) (m : ℕ). cs ++ (tooShort places (m * t .shape .offers) ++ tooShort work m)) (checks-same t u s) (rows-same t u s)
+      ∙ ap (λ (n : ℕ). trialChecks u ++ (tooShort places (rowTotal u * n) ++ tooShort work (rowTotal u))) (offers-same t u s)
 
   pub answer-same : (places work : ℕ) → trialAnswer t places work ≡ trialAnswer u places work
   unfolding trialAnswer

@@ -6,9 +6,10 @@ use Prim.Native.Nat.{ℕ}
 use mathlib.Core.List.{List}
 use Rattle.refusals.specs.Answers.{answer}
 use Rattle.runs.specs.FullRuns.{acceptedRun, refusedRun}
+use Rattle.trial.specs.Record.{blank}
 use Rattle.trial.specs.declared.Trial.{Trial}
-use Rattle.trialfile.specs.Words.{wordsOf}
-use Rattle.trialfile.specs.Files.{blank, trialOf, fileChecks}
+use Rattle.words.specs.Words.{wordsOf}
+use Rattle.trialfile.specs.Files.{trialOf, fileChecks}
 use Rattle.trialrun.specs.TrialRuns.{trialRun}
 use Rattle.trialrun.specs.declared.FileRun.{FileRun}
 

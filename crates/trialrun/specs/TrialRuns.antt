@@ -19,10 +19,10 @@ use Rattle.trial.specs.declared.Trial.{Trial}
 
 unfoldable pub trialRun : Trial → Outcome
 unfolding tableRun tableOf rowTotal
-trialRun t = tableRun (tableOf t) (rowTotal t) (t .offers) (t .k) (t .a) (t .b) 0
+trialRun t = tableRun (tableOf t) (rowTotal t) (t .shape .offers) (t .shape .k) (t .level .a) (t .level .b) 0
 
 abbrev pub runCallChecks : Trial → ℕ → ℕ → Checks
-runCallChecks t places work = trialChecks t ++ (tooShort places (rowTotal t * t .offers) ++ tooShort work (rowTotal t))
+runCallChecks t places work = trialChecks t ++ (tooShort places (rowTotal t * t .shape .offers) ++ tooShort work (rowTotal t))
 
 unfoldable pub runCallRefusal : Trial → ℕ → ℕ → ℕ
 unfolding firstRefusal

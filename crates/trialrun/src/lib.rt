@@ -1,4 +1,6 @@
 // The full run of a trial, and of a trial file. The definitions are in specs/, their laws in proofs/.
+use limits::TRIAL_ROWS_MOST;
+use limits::TRIAL_TABLE_MOST;
 use runs::FullRun;
 use trial::Trial;
 ghost use mathlib.Core.Path.{_≡_};
@@ -24,7 +26,16 @@ pub fn full_run(t: Trial, table: &mut [f64], work: &mut [f64]) -> FullRun
         return runs::refused(12);
     }
     trial::table(t, table);
-    stepdown::full_run(&table[..total], work, s.rows, s.columns, t.k, t.a, t.b, 0)
+    stepdown::full_run(
+        &table[..total],
+        work,
+        s.rows,
+        s.columns,
+        t.shape.k,
+        t.level.a,
+        t.level.b,
+        0,
+    )
 }
 
 // What a file's full run answers: `run.refusal` is 0, or the number by which the file is turned away; then the trial holds nothing but zeros.
@@ -33,7 +44,7 @@ pub struct FileRun {
     pub run: FullRun,
 }
 
-// Reads a file and runs its trial. The buffers are those of the largest trial: 512 rows of 16 offers.
+// Reads a file and runs its trial. The buffers are those of the largest trial.
 pub fn file_run(file: &[u8]) -> FileRun
     ensures { λ r. ⌜ r ≡ fileRun (now (file .entry)) ⌝ }
 {
@@ -46,8 +57,8 @@ pub fn file_run(file: &[u8]) -> FileRun
             run: runs::refused(n),
         };
     }
-    let mut table = [0.0f64; 8192];
-    let mut work = [0.0f64; 512];
+    let mut table = [0.0f64; TRIAL_TABLE_MOST];
+    let mut work = [0.0f64; TRIAL_ROWS_MOST];
     let run = full_run(trial, &mut table, &mut work);
     FileRun { trial, run }
 }

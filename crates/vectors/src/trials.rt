@@ -3,6 +3,12 @@
 use super::input;
 use super::pen;
 use super::pen::Pen;
+use limits::FIGURES_MOST;
+use limits::OFFERS_MOST;
+use trial::Design;
+use trial::Labels;
+use trial::Level;
+use trial::Shape;
 use trial::Trial;
 
 fn shifted(d: i32) -> usize {
@@ -13,20 +19,20 @@ fn difference(n: usize) -> i32 {
     ((n % 4294967296) as i64 - 2147483648) as i32
 }
 
-fn differences(p: Pen, xs: [i32; 144]) -> Pen {
+fn differences(p: Pen, xs: [i32; FIGURES_MOST]) -> Pen {
     let mut q = p;
     let mut i: usize = 0;
-    while i < 144 {
+    while i < FIGURES_MOST {
         q = pen::put(q, shifted(xs[i]));
         i += 1;
     }
     q
 }
 
-fn offers(p: Pen, codes: [u32; 16], digits: [u8; 16]) -> Pen {
+fn offers(p: Pen, codes: [u32; OFFERS_MOST], digits: [u8; OFFERS_MOST]) -> Pen {
     let mut q = p;
     let mut i: usize = 0;
-    while i < 16 {
+    while i < OFFERS_MOST {
         let code = codes[i];
         q = pen::put(q, code as usize);
         q = pen::put(q, input::wide(digits[i]));
@@ -36,20 +42,24 @@ fn offers(p: Pen, codes: [u32; 16], digits: [u8; 16]) -> Pen {
 }
 
 pub(crate) fn print(p: Pen, t: Trial) -> Pen {
-    let figures = [t.a, t.b, t.k, t.offers, t.pairs];
-    let codes = t.codes;
-    let digits = t.digits;
-    let cents = t.differences;
+    let shape = t.shape;
+    let design = shape.design;
+    let units = trial::units(design);
+    let figures = [t.level.a, t.level.b, shape.k, shape.offers, units];
+    let labels = t.labels;
+    let codes = labels.codes;
+    let digits = labels.digits;
+    let cents = t.figures;
     let q = offers(pen::list(p, &figures), codes, digits);
     differences(q, cents)
 }
 
 // So many differences stand in the input; the others are zero.
-fn read_differences() -> [i32; 144] {
+fn read_differences() -> [i32; FIGURES_MOST] {
     let given = input::word();
-    let mut xs = [0i32; 144];
+    let mut xs = [0i32; FIGURES_MOST];
     let mut i: usize = 0;
-    while i < 144 {
+    while i < FIGURES_MOST {
         xs[i] = difference(input::word_or(i < given, 2147483648));
         i += 1;
     }
@@ -57,22 +67,25 @@ fn read_differences() -> [i32; 144] {
 }
 
 pub(crate) fn read() -> Trial {
-    let mut codes = [0u32; 16];
-    let mut digits = [0u8; 16];
+    let mut codes = [0u32; OFFERS_MOST];
+    let mut digits = [0u8; OFFERS_MOST];
     let mut i: usize = 0;
-    while i < 16 {
+    while i < OFFERS_MOST {
         codes[i] = (input::word() % 4294967296) as u32;
         digits[i] = (input::word() % 256) as u8;
         i += 1;
     }
     Trial {
-        a: input::word(),
-        b: input::word(),
-        k: input::word(),
-        offers: input::word(),
-        pairs: input::word(),
-        codes,
-        digits,
-        differences: read_differences(),
+        level: Level {
+            a: input::word(),
+            b: input::word(),
+        },
+        shape: Shape {
+            k: input::word(),
+            offers: input::word(),
+            design: Design::Paired(input::word()),
+        },
+        labels: Labels { codes, digits },
+        figures: read_differences(),
     }
 }

@@ -1,4 +1,4 @@
--- `read`: judged, and where nothing is refused the trial is read.
+-- `trialfile::read` meets its contract: the number of the refusal with the blank trial, or the trial.
 use Rattle.trialfile.proofs.Taken.{refused, taken}
 use borrow.Author.Needs.{needs}
 use Rattle.trialfile.proofs.read.Statement.{statement}
@@ -12,4 +12,10 @@ returns-2 c = taken _ _ _ (c .before .before .judge .ensures) (c .before .if1 .l
 
 pub read-spec : {M : Type 1} → statement M
 read-spec =
-    tie.close (tie.spec (λ c κs. search needs) (λ c κs. search needs) returns (λ c κs. search needs) returns-2)
+    tie.close
+    (tie.spec
+    (λ c κs. search needs)
+    (λ c κs. search needs)
+    returns
+    (λ c κs. search needs)
+    returns-2)

@@ -4,35 +4,34 @@ use Prim.Native.Nat.{_≤_}
 use native.Mathlib.Omega.{arith}
 use lib.ListN.{length}
 use borrow.Author.Needs.{needs}
-use Rattle.trial.specs.Refusals.{among}
-use Rattle.trial.specs.Internal.{earlierOf}
+use Rattle.trial.specs.Refusals.{among, earlier, nth}
 use Rattle.trial.proofs.Conditions.{earlier-hit, earlier-turn, earlier-none}
 use Rattle.trial.proofs.checks.earlier.Statement.{statement}
 use Rattle.trial.proofs.checks.earlier.Tie as tie
 
 abbrev Inv-loop : tie.InvT-loop
-Inv-loop i code codes j₀ j = (j ≤ i) × (i ≤ 16) × (i ≤ length codes) × (among code (earlierOf i codes) ≡ among code (earlierOf j codes))
+Inv-loop codes i code j₀ j = (j ≤ i) × (i ≤ length codes) × (among code (earlier (nth codes 0) i) ≡ among code (earlier (nth codes 0) j))
 
 abbrev μ-loop : tie.MeasureT-loop
-μ-loop i code codes j₀ j = j
+μ-loop codes i code j₀ j = j
 
 mul-if1 : tie.Need-mul-if1 Inv-loop μ-loop
 mul-if1 c = omega arith
 
-array-read-if1 : tie.Need-array-read-if1 Inv-loop μ-loop
-array-read-if1 c = omega arith
+shared-slice-read-if1 : tie.Need-shared-slice-read-if1 Inv-loop μ-loop
+shared-slice-read-if1 c = omega arith
 
 returns : tie.Need-returns Inv-loop μ-loop
-returns c = let l = c .before .before .loop in sym (l .inv .3 ∙ earlier-hit _ _ (l .j) (omega arith) (c .if1 .taken))
+returns c = let l = c .before .before .before .loop in sym (l .inv .2 ∙ earlier-hit _ _ (l .j) (omega arith) (c .if1 .taken))
 
 loop-less : tie.Need-loop-less Inv-loop μ-loop
 loop-less c = omega arith
 
 loop-again : tie.Need-loop-again Inv-loop μ-loop
-loop-again c = let l = c .before .before .loop in (omega arith, l .inv .1, l .inv .2, l .inv .3 ∙ earlier-turn _ _ (l .j) (omega arith) (c .if1 .left))
+loop-again c = let l = c .before .before .before .loop in (omega arith, l .inv .1, l .inv .2 ∙ earlier-turn _ _ (l .j) (omega arith) (c .if1 .left))
 
 returns-2 : tie.Need-returns-2 Inv-loop μ-loop
-returns-2 c = sym (c .before .loop .inv .3 ∙ earlier-none _ _ (c .before .loop .j) (omega arith))
+returns-2 c = sym (c .before .loop .inv .2 ∙ earlier-none _ _ (c .before .loop .j) (omega arith))
 
 pub earlier-spec : {M : Type 1} → statement M
 earlier-spec =
@@ -43,7 +42,7 @@ earlier-spec =
     (λ c. search needs)
     (λ c. search needs)
     mul-if1
-    array-read-if1
+    shared-slice-read-if1
     returns
     loop-less
     loop-again

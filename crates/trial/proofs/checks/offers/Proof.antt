@@ -1,47 +1,48 @@
 -- `trial::checks::offers` meets its contract. The loop's invariant: the first refusal among all offers is the first from offer i on.
 use mathlib.Core.Path.{_≡_, sym, _∙_}
-use mathlib.Core.List.{[]}
 use Prim.Native.Nat.{_≤_, _-_}
 use native.Mathlib.Omega.{arith}
-use lib.ListN.{length, take}
+use lib.ListN.{length}
 use borrow.Author.Needs.{needs}
-use Rattle.refusals.specs.Answers.{firstRefusal}
-use Rattle.trial.specs.Refusals.{offerChecks}
-use Rattle.trial.proofs.Conditions.{offersFrom, offers-start, offers-refused, offers-turn, offers-none}
+use Rattle.refusals.specs.Answers.{placesFrom, firstRefusal}
+use Rattle.refusals.proofs.Places.{placesLeft, places-start, place-decides, place-passes, places-end}
+use Rattle.trial.specs.Refusals.{offerChecks, nth}
+use Rattle.trial.proofs.Conditions.{digits-wide, offer-judged}
 use Rattle.trial.proofs.checks.offers.Statement.{statement}
 use Rattle.trial.proofs.checks.offers.Tie as tie
 
 abbrev Inv-loop : tie.InvT-loop
-Inv-loop n codes digits i₀ i =
-    (i ≤ n) × (n ≤ 16) × (n ≤ length codes) × (n ≤ length digits) × (firstRefusal (offerChecks [] (take n codes) (take n digits)) ≡ offersFrom i n codes digits)
+Inv-loop codes digits n i₀ i =
+    (i ≤ n) × (n ≤ length codes) × (n ≤ length digits)
+    × (firstRefusal (placesFrom (offerChecks (nth codes 0) (nth digits 0)) 0 n) ≡ firstRefusal (placesLeft (offerChecks (nth codes 0) (nth digits 0)) n i))
 
 abbrev μ-loop : tie.MeasureT-loop
-μ-loop n codes digits i₀ i = n - i
+μ-loop codes digits n i₀ i = n - i
 
 loop-holds : tie.Need-loop-holds Inv-loop μ-loop
-loop-holds c = (omega arith, omega arith, omega arith, omega arith, offers-start _ _ _ 0)
+loop-holds c = (omega arith, omega arith, omega arith, places-start _ _)
 
 returns : tie.Need-returns Inv-loop μ-loop
 returns c =
-    let q = c .before .before .before in
-    let d = q .before in
-    let l = d .before .before .loop .inv in
-    sym (l .4 ∙ offers-refused _ _ _ _ (d .before .loop-test .taken) (l .2) (l .3) _ _ _ _ (d .bad-digits .ensures) (q .earlier .ensures) (c .before .before .first-of .ensures) (c .before .first-of2 .ensures) (c .if1 .taken))
+    let f = c .before .before in
+    let d = f .before .before in
+    let g = d .before .before .before .before in
+    let a = g .before .before .before .before .args in
+    let here = offer-judged (nth (a .codes .now) 0) (nth (a .digits .now) 0) (g .before .loop .i) _ _ _ _ (digits-wide _ _ _ _ (d .before .wide .ensures) (d .bad-digits .ensures)) (f .before .earlier .ensures) (f .first-of .ensures) (c .before .first-of2 .ensures) in
+    sym (g .before .loop .inv .3 ∙ place-decides _ _ _ (g .loop-test .taken) _ here (c .if1 .taken))
 
 loop-again : tie.Need-loop-again Inv-loop μ-loop
 loop-again c =
-    let q = c .before .before .before in
-    let d = q .before in
-    let l = d .before .before .loop .inv in (
-      omega arith,
-      l .1,
-      l .2,
-      l .3,
-      l .4 ∙ offers-turn _ _ _ _ (d .before .loop-test .taken) (l .2) (l .3) _ _ _ _ (d .bad-digits .ensures) (q .earlier .ensures) (c .before .before .first-of .ensures) (c .before .first-of2 .ensures) (c .if1 .left),
-    )
+    let f = c .before .before in
+    let d = f .before .before in
+    let g = d .before .before .before .before in
+    let l = g .before .loop .inv in
+    let a = g .before .before .before .before .args in
+    let here = offer-judged (nth (a .codes .now) 0) (nth (a .digits .now) 0) (g .before .loop .i) _ _ _ _ (digits-wide _ _ _ _ (d .before .wide .ensures) (d .bad-digits .ensures)) (f .before .earlier .ensures) (f .first-of .ensures) (c .before .first-of2 .ensures) in
+    (omega arith, l .1, l .2, l .3 ∙ place-passes _ _ _ (g .loop-test .taken) _ here (c .if1 .left))
 
 returns-2 : tie.Need-returns-2 Inv-loop μ-loop
-returns-2 c = let l = c .before .loop .inv in sym (l .4 ∙ offers-none _ _ _ _ (c .loop-test .left) (l .0))
+returns-2 c = let l = c .before .loop .inv in sym (l .3 ∙ places-end _ _ _ (c .loop-test .left))
 
 pub offers-spec : {M : Type 1} → statement M
 offers-spec =

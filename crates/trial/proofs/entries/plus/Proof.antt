@@ -1,8 +1,6 @@
 -- `trial::entries::plus` meets its contract.
-use lib.IntN.{_+ℤ_}
 use Rattle.order.proofs.Signed.{wide-fits}
-use Rattle.trial.proofs.Sums.{abs-add}
-use Rattle.trial.proofs.Places.{op-fits, op-is, op-below}
+use Rattle.trial.proofs.Places.{plus-fits, plus-is, plus-below}
 use Rattle.trial.proofs.entries.plus.Statement.{statement}
 use Rattle.trial.proofs.entries.plus.Tie as tie
 
@@ -10,13 +8,10 @@ cast-result : tie.Need-cast-result
 cast-result c = wide-fits (c .args .d) (c .fits .d)
 
 add-result : tie.Need-add-result
-add-result c = op-fits _+ℤ_ abs-add (c .args .sum) (c .args .d) (c .fits .sum) (c .fits .d) (c .pre)
+add-result c = plus-fits (c .args .sum) (c .args .d) (c .fits .sum) (c .fits .d) (c .pre)
 
 returns : tie.Need-returns
-returns c = (
-  op-is _+ℤ_ abs-add (c .args .sum) (c .args .d) (c .fits .sum) (c .fits .d) (c .pre),
-  op-below _+ℤ_ abs-add (c .args .sum) (c .args .d) (c .fits .sum) (c .fits .d) (c .pre),
-)
+returns c = (plus-is (c .args .sum) (c .args .d) (c .fits .sum) (c .fits .d) (c .pre), plus-below (c .args .sum) (c .args .d) (c .fits .sum) (c .fits .d) (c .pre))
 
 pub plus-spec : {M : Type 1} → statement M
 plus-spec = tie.close (tie.spec cast-result add-result returns)

@@ -1,54 +1,54 @@
--- `judge_body`: offers, or else differences, or else the end.
-use mathlib.Core.Path.{refl, sym}
-use Prim.Native.Nat.{_*_, _≤_}
+-- `trialfile::judging::judge_body` meets its contract: offers, figures and end at the places of the layout.
+use mathlib.Core.Path.{sym}
 use native.Mathlib.Omega.{arith}
-use Rattle.trialfile.specs.Words.{wordsOf}
-use Rattle.trialfile.proofs.Parts.{product-most}
-use Rattle.trialfile.proofs.Conditions.{body-offers, body-differences, body-end}
+use Rattle.trialfile.proofs.Layouts.{count-most, length-most, stands}
+use Rattle.trialfile.proofs.Judged.{body-offers, body-figures, body-end}
 use borrow.Author.Needs.{needs}
 use Rattle.trialfile.proofs.judging.judge_body.Statement.{statement}
 use Rattle.trialfile.proofs.judging.judge_body.Tie as tie
 
-most : (c : tie.Start) → c .args .offers * c .args .pairs ≤ 144
-most c = product-most (c .args .offers) (c .args .pairs) (c .pre .0) (c .pre .1)
-
-mul-n : tie.Need-mul-n
-mul-n c = record { fits = omega (arith, most (c .before)) }
+judge-offers-requires : tie.Need-judge-offers-requires
+judge-offers-requires c κs = (c .before .before .pre .0, omega (arith, stands _ _ (c .of-shape .ensures) .offers-at))
 
 returns : tie.Need-returns
-returns c =
-    let args = c .before .before .before .args in
-    sym (body-offers (wordsOf (args .file .now)) (args .offers) (args .pairs) _ (c .before .judge-offers .ensures) (c .if1 .taken))
+returns c = sym (body-offers _ _ _ (c .before .before .of-shape .ensures) _ (c .before .judge-offers .ensures) (c .if1 .taken))
 
-judge-differences-requires : tie.Need-judge-differences-requires
-judge-differences-requires c κs = let m = most (c .before .before .before) in (omega arith, m)
+sub-judge-figures : tie.Need-sub-judge-figures
+sub-judge-figures c = let p = stands _ _ (c .before .before .before .of-shape .ensures) in omega (arith, p .figures-at, p .end-at)
+
+judge-figures-requires : tie.Need-judge-figures-requires
+judge-figures-requires c κs =
+    let p = stands _ _ (c .before .before .before .of-shape .ensures) in
+    let q = c .before .before .before .before .before .pre in
+    let m = count-most (c .before .before .before .before .before .args .shape) (q .0) (q .1) in
+    (omega (arith, p .figures-at, p .end-at), omega (arith, p .figures-at, q .0))
 
 returns-2 : tie.Need-returns-2
 returns-2 c =
-    sym (body-differences _ _ _ _ (c .before .before .before .judge-offers .ensures) (c .before .before .if1 .left) _ _ refl (c .before .judge-differences .ensures) (c .if2 .taken))
-
-add-judge-end-2 : tie.Need-add-judge-end-2
-add-judge-end-2 c = record { fits = omega (arith, most (c .before .before .before .before .before)) }
+    let o = c .before .before .before .before in
+    let p = stands _ _ (o .before .of-shape .ensures) in
+    sym (body-figures _ _ _ (o .before .of-shape .ensures) _ (o .judge-offers .ensures) (c .before .before .before .if1 .left) _ _ (omega (arith, p .figures-at, p .end-at)) (c .before .judge-figures .ensures) (c .if2 .taken))
 
 judge-end-requires : tie.Need-judge-end-requires
-judge-end-requires c κs = omega (arith, most (c .before .before .before .before .before))
+judge-end-requires c κs =
+    let q = c .before .before .before .before .before .before .before .pre in
+    omega (arith, length-most _ _ (c .before .before .before .before .before .of-shape .ensures) (q .0) (q .1))
 
 returns-3 : tie.Need-returns-3
 returns-3 c =
-    let d = c .before .before in
-    sym (body-end _ _ _ _ (d .before .before .judge-offers .ensures) (d .before .if1 .left) _ _ refl (d .judge-differences .ensures) (c .before .if2 .left) _ (c .judge-end .ensures))
+    let o = c .before .before .before .before .before in
+    let p = stands _ _ (o .before .of-shape .ensures) in
+    sym (body-end _ _ _ (o .before .of-shape .ensures) _ (o .judge-offers .ensures) (c .before .before .before .before .if1 .left) _ _ (omega (arith, p .figures-at, p .end-at)) (c .before .before .judge-figures .ensures) (c .before .if2 .left) _ (c .judge-end .ensures))
 
 pub judge-body-spec : {M : Type 1} → statement M
 judge-body-spec =
     tie.close
     (tie.spec
-    mul-n
     (λ c κs. search needs)
+    judge-offers-requires
     returns
-    (λ c. search needs)
-    judge-differences-requires
+    sub-judge-figures
+    judge-figures-requires
     returns-2
-    (λ c. search needs)
-    add-judge-end-2
     judge-end-requires
     returns-3)

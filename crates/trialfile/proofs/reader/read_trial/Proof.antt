@@ -1,33 +1,35 @@
--- `read_trial`: the parts of the trial, each read off the words.
+-- `trialfile::reader::read_trial` meets its contract: the counts of an accepted file fit the arrays, and its parts make its trial.
 use native.Mathlib.Omega.{arith}
-use Rattle.trialfile.proofs.Taken.{offers-fit, product-fits, words-fit, trial-read}
+use Rattle.trialfile.proofs.Layouts.{count-most, stands}
+use Rattle.trialfile.proofs.Taken.{shape-fits, trial-read}
 use borrow.Author.Needs.{needs}
 use Rattle.trialfile.proofs.reader.read_trial.Statement.{statement}
 use Rattle.trialfile.proofs.reader.read_trial.Tie as tie
 
-read-offers-requires : tie.Need-read-offers-requires
-read-offers-requires c κs =
-    let pre = c .before .before .before .pre in
-    let shape = c .word-at2 .ensures in
-    (offers-fit _ pre _ shape, omega (arith, words-fit _ pre _ shape))
+of-shape-requires : tie.Need-of-shape-requires
+of-shape-requires c κs = shape-fits _ (c .before .before .before .before .before .pre) _ _ (c .before .word-at2 .ensures) (c .shape-of .ensures)
 
-mul-read-differences : tie.Need-mul-read-differences
-mul-read-differences c =
-    let v = c .before .before .before in
-    record { fits = omega (arith, product-fits _ (v .before .before .before .pre) _ (v .word-at2 .ensures)) }
+read-labels-requires : tie.Need-read-labels-requires
+read-labels-requires c κs =
+    let f = shape-fits _ (c .before .before .before .before .before .before .pre) _ _ (c .before .before .word-at2 .ensures) (c .before .shape-of .ensures) in
+    (f .0, omega (arith, stands _ _ (c .of-shape .ensures) .offers-at))
 
-read-differences-requires : tie.Need-read-differences-requires
-read-differences-requires c κs =
-    let v = c .before .before .before in
-    let pre = v .before .before .before .pre in
-    let shape = v .word-at2 .ensures in
-    (omega (arith, offers-fit _ pre _ shape), product-fits _ pre _ shape, words-fit _ pre _ shape)
+sub-read-figures : tie.Need-sub-read-figures
+sub-read-figures c = let p = stands _ _ (c .before .before .of-shape .ensures) in omega (arith, p .figures-at, p .end-at)
+
+read-figures-requires : tie.Need-read-figures-requires
+read-figures-requires c κs =
+    let f = shape-fits _ (c .before .before .before .before .before .before .before .before .pre) _ _ (c .before .before .before .before .word-at2 .ensures) (c .before .before .before .shape-of .ensures) in
+    let p = stands _ _ (c .before .before .of-shape .ensures) in
+    let m = count-most (c .before .before .before .shape-of .result) (f .0) (f .1) in
+    (omega (arith, p .figures-at, p .end-at, m), omega (arith, p .figures-at, f .0))
 
 returns : tie.Need-returns
 returns c =
-    let o = c .before .before .before in
-    let v = o .before in
-    trial-read _ _ _ _ _ _ (v .before .word-at .ensures) (v .word-at2 .ensures) (o .read-offers .ensures .0) (o .read-offers .ensures .1) (c .read-differences .ensures)
+    let l = c .before .before .before in
+    let v = l .before .before in
+    let p = stands _ _ (l .of-shape .ensures) in
+    trial-read _ _ _ _ _ _ _ _ _ _ (v .before .before .word-at .ensures) (v .before .level-of .ensures) (v .word-at2 .ensures) (l .before .shape-of .ensures) (l .of-shape .ensures) (omega (arith, p .figures-at, p .end-at)) (c .before .before .read-labels .ensures .0) (c .before .before .read-labels .ensures .1) (c .read-figures .ensures)
 
 pub read-trial-spec : {M : Type 1} → statement M
 read-trial-spec =
@@ -35,13 +37,10 @@ read-trial-spec =
     (tie.spec
     (λ c κs. search needs)
     (λ c κs. search needs)
-    (λ c. search needs)
-    (λ c. search needs)
-    read-offers-requires
-    (λ c. search needs)
-    (λ c. search needs)
-    (λ c. search needs)
-    (λ c. search needs)
-    mul-read-differences
-    read-differences-requires
+    (λ c κs. search needs)
+    (λ c κs. search needs)
+    of-shape-requires
+    read-labels-requires
+    sub-read-figures
+    read-figures-requires
     returns)

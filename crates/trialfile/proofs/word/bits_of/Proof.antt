@@ -1,5 +1,5 @@
 -- `bits_of`: two's complement in 28 bits.
-use Rattle.trialfile.proofs.Signed.{moved-fits, moved-is, as-is, field-casts, field-is}
+use Rattle.words.proofs.Signed.{moved-fits, moved-is, as-is, field-casts, field-is}
 use Rattle.trialfile.proofs.word.bits_of.Statement.{statement}
 use Rattle.trialfile.proofs.word.bits_of.Tie as tie
 

@@ -2,7 +2,7 @@
 use Prim.Native.Nat.{ℕ, _+_}
 use mathlib.Core.Path.{ap, _∙_}
 use mir.Facts.{toZ-ofZ}
-use Rattle.trialfile.specs.Words.{bitsOf}
+use Rattle.words.specs.Words.{bitsOf}
 use borrow.Author.Needs.{needs}
 use Rattle.trialfile.proofs.word.difference_word.Statement.{statement}
 use Rattle.trialfile.proofs.word.difference_word.Tie as tie

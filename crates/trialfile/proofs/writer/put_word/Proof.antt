@@ -2,7 +2,7 @@
 use Prim.Native.Nat.{_*_}
 use native.Mathlib.Omega.{arith}
 use lib.ListN.{length-set}
-use Rattle.trialfile.proofs.Writes.{word-stored}
+use Rattle.trialfile.proofs.Stored.{word-stored}
 use borrow.Author.Needs.{needs}
 use Rattle.trialfile.proofs.writer.put_word.Statement.{statement}
 use Rattle.trialfile.proofs.writer.put_word.Tie as tie

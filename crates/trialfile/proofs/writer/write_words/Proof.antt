@@ -1,67 +1,105 @@
--- `write_words`: the invariant is the buffer with the words so far.
-use mathlib.Core.Path.{_≡_, _∙_}
-use Prim.Native.Nat.{_+_, _-_, _*_, _≤_}
+-- `trialfile::writer::write_words` meets its contract: level, shape, offers, figures and end, one after the other at the places of the layout.
 use native.Mathlib.Omega.{arith}
-use lib.ListN.{length}
-use Rattle.trial.specs.Record.{ArrayLengths}
-use Rattle.trial.specs.Refusals.{trialRefusal}
-use Rattle.trialfile.specs.Files.{wordsBefore}
-use Rattle.trialfile.specs.Writings.{fileWords, fileOf}
-use Rattle.trialfile.proofs.Written.{fileWords-length, fileLength-most}
-use Rattle.trialfile.proofs.Writes.{stored, store-start, store-length, store-turn, store-end}
+use Rattle.trialfile.proofs.Written.{fileLength-is, fileLength-most}
+use Rattle.trialfile.proofs.Writes.{writable, all-stored}
 use borrow.Author.Needs.{needs}
 use Rattle.trialfile.proofs.writer.write_words.Statement.{statement}
 use Rattle.trialfile.proofs.writer.write_words.Tie as tie
 
-abbrev Inv-loop : tie.InvT-loop
-Inv-loop t n out₀ at₀ out at = ArrayLengths t × (trialRefusal t ≡ 0) × (n ≡ wordsBefore t + 1) × (at ≤ n) × (4 * n ≤ length out₀) × (length out ≡ length out₀) × (out ≡ stored (fileWords t) out₀ at)
+level-word-requires : tie.Need-level-word-requires
+level-word-requires c κs =
+    let p = c .before .before .before .before .before .before .before .before .pre in
+    let able = writable (c .before .before .before .before .before .before .before .before .args .t) (c .before .before .before .before .before .before .before .before .args .l) (p .0) (p .1) (p .2) in
+    let at = able .placed in
+    (omega (arith, able .a-most, able .b-most), omega (arith, able .a-most, able .b-most))
 
-abbrev μ-loop : tie.MeasureT-loop
-μ-loop t n out₀ at₀ out at = n - at
+shape-word-requires : tie.Need-shape-word-requires
+shape-word-requires c κs =
+    let p = c .before .before .before .before .before .before .before .before .before .before .before .before .before .pre in
+    let able = writable (c .before .before .before .before .before .before .before .before .before .before .before .before .before .args .t) (c .before .before .before .before .before .before .before .before .before .before .before .before .before .args .l) (p .0) (p .1) (p .2) in
+    let at = able .placed in
+    (able .k-most, able .offers-most, able .units-most)
 
-loop-holds : tie.Need-loop-holds Inv-loop μ-loop
-loop-holds c =
-    let p = c .before .pre in
-    (p .0, p .1, p .2, omega arith, omega (arith, p .3), omega arith, store-start (fileWords (c .before .args .t)) (c .before .args .out .now))
+put-word-requires-2 : tie.Need-put-word-requires-2
+put-word-requires-2 c κs =
+    let p = c .before .before .before .before .before .before .before .before .before .before .before .before .before .before .pre in
+    let able = writable (c .before .before .before .before .before .before .before .before .before .before .before .before .before .before .args .t) (c .before .before .before .before .before .before .before .before .before .before .before .before .before .before .args .l) (p .0) (p .1) (p .2) in
+    let at = able .placed in
+    (omega arith, omega (arith, able .all-words, p .3, at .end-at, c .before .before .before .before .put-word .kept .0))
 
-word-of-requires : tie.Need-word-of-requires Inv-loop μ-loop
-word-of-requires c κs = let l = c .before .loop .inv in (l .0, l .1, omega (arith, l .2))
+write-offers-requires : tie.Need-write-offers-requires
+write-offers-requires c κs =
+    let p = c .before .before .before .before .before .before .before .before .before .before .before .before .before .before .before .before .before .before .before .before .pre in
+    let able = writable (c .before .before .before .before .before .before .before .before .before .before .before .before .before .before .before .before .before .before .before .before .args .t) (c .before .before .before .before .before .before .before .before .before .before .before .before .before .before .before .before .before .before .before .before .args .l) (p .0) (p .1) (p .2) in
+    let at = able .placed in (
+      able .offers-most,
+      omega (arith, p .0 .codes-length, able .offers-most),
+      omega (arith, p .0 .digits-length, able .offers-most),
+      omega (arith, at .offers-at),
+      omega (arith, able .all-words, p .3, at .offers-at, at .end-at, c .before .before .before .before .before .put-word2 .kept .0, c .before .before .before .before .before .before .before .before .before .before .put-word .kept .0),
+      able .labels-ok,
+    )
 
-put-word-requires : tie.Need-put-word-requires Inv-loop μ-loop
-put-word-requires c κs =
-    let l = c .before .before .before .loop .inv in
-    (omega (arith, fileLength-most _ (l .0) (l .1), l .2), omega (arith, l .4, l .5))
+sub-write-figures : tie.Need-sub-write-figures
+sub-write-figures c =
+    let p = c .before .before .before .before .before .before .before .before .before .before .before .before .before .before .before .before .before .before .before .before .before .before .before .before .before .pre in
+    let able = writable (c .before .before .before .before .before .before .before .before .before .before .before .before .before .before .before .before .before .before .before .before .before .before .before .before .before .args .t) (c .before .before .before .before .before .before .before .before .before .before .before .before .before .before .before .before .before .before .before .before .before .before .before .before .before .args .l) (p .0) (p .1) (p .2) in
+    let at = able .placed in
+    omega (arith, at .figures-at, at .end-at)
 
-loop-again : tie.Need-loop-again Inv-loop μ-loop
-loop-again c =
-    let l = c .before .before .before .before .before .before .loop in
-    let p = l .inv in
-    let put = c .before .before .put-word .ensures in
-    let many = fileWords-length _ (p .0) (p .1) in
-    let word = c .before .before .before .before .word-of .result in
-    (p .0, p .1, p .2, omega arith, p .4, store-length (l .out) _ (4 * l .at) word put ∙ p .5, store-turn _ _ (l .at) word (l .out) _ (omega (arith, many, p .2)) (omega (arith, many, p .2, p .4)) (c .before .before .before .before .word-of .ensures) (p .6) put)
+write-figures-requires : tie.Need-write-figures-requires
+write-figures-requires c κs =
+    let p = c .before .before .before .before .before .before .before .before .before .before .before .before .before .before .before .before .before .before .before .before .before .before .before .before .before .before .pre in
+    let able = writable (c .before .before .before .before .before .before .before .before .before .before .before .before .before .before .before .before .before .before .before .before .before .before .before .before .before .before .args .t) (c .before .before .before .before .before .before .before .before .before .before .before .before .before .before .before .before .before .before .before .before .before .before .before .before .before .before .args .l) (p .0) (p .1) (p .2) in
+    let at = able .placed in
+    let n = able .figures-most in (
+      omega (arith, at .figures-at, at .end-at),
+      omega (arith, at .figures-at, at .end-at, p .0 .figures-length),
+      omega (arith, at .figures-at, able .offers-most),
+      omega (arith, able .all-words, p .3, at .figures-at, at .end-at, c .before .before .before .before .before .write-offers .kept .1 .1 .1 .1 .0, c .before .before .before .before .before .before .before .before .before .before .before .put-word2 .kept .0, c .before .before .before .before .before .before .before .before .before .before .before .before .before .before .before .before .put-word .kept .0),
+      λ i k. able .figures-ok i (omega (arith, at .figures-at, at .end-at)),
+    )
 
-same-length : tie.Need-same-length Inv-loop μ-loop
-same-length c = c .before .loop .inv .5
+end-word-requires : tie.Need-end-word-requires
+end-word-requires c κs =
+    let p = c .before .before .before .before .before .before .before .before .before .before .before .before .before .before .before .before .before .before .before .before .before .before .before .before .before .before .before .before .before .before .pre in
+    let able = writable (c .before .before .before .before .before .before .before .before .before .before .before .before .before .before .before .before .before .before .before .before .before .before .before .before .before .before .before .before .before .before .args .t) (c .before .before .before .before .before .before .before .before .before .before .before .before .before .before .before .before .before .before .before .before .before .before .before .before .before .before .before .before .before .before .args .l) (p .0) (p .1) (p .2) in
+    let at = able .placed in
+    omega (arith, able .all-words, fileLength-most _ (p .0) (p .1))
 
-returns : tie.Need-returns Inv-loop μ-loop
-unfolding fileOf
+put-word-requires-3 : tie.Need-put-word-requires-3
+put-word-requires-3 c κs =
+    let p = c .before .before .before .before .before .before .before .before .before .before .before .before .before .before .before .before .before .before .before .before .before .before .before .before .before .before .before .before .before .before .before .pre in
+    let able = writable (c .before .before .before .before .before .before .before .before .before .before .before .before .before .before .before .before .before .before .before .before .before .before .before .before .before .before .before .before .before .before .before .args .t) (c .before .before .before .before .before .before .before .before .before .before .before .before .before .before .before .before .before .before .before .before .before .before .before .before .before .before .before .before .before .before .before .args .l) (p .0) (p .1) (p .2) in
+    let at = able .placed in
+    (omega (arith, able .all-words, fileLength-most _ (p .0) (p .1)), omega (arith, able .all-words, p .3, c .before .before .before .before .write-figures .kept .1 .1 .1 .0, c .before .before .before .before .before .before .before .before .before .before .write-offers .kept .1 .1 .1 .1 .0, c .before .before .before .before .before .before .before .before .before .before .before .before .before .before .before .before .put-word2 .kept .0, c .before .before .before .before .before .before .before .before .before .before .before .before .before .before .before .before .before .before .before .before .before .put-word .kept .0))
+
+returns : tie.Need-returns
 returns c =
-    let l = c .before .loop .inv in
-    let many = fileWords-length _ (l .0) (l .1) in
-    store-end _ _ (c .before .loop .at) _ (omega (arith, many, l .2, l .3)) (omega (arith, many, l .2, c .loop-test .left)) (l .6)
+    let p = c .before .before .before .before .before .before .before .before .before .before .before .before .before .before .before .before .before .before .before .before .before .before .before .before .before .before .before .before .before .before .before .before .before .before .pre in
+    let able = writable (c .before .before .before .before .before .before .before .before .before .before .before .before .before .before .before .before .before .before .before .before .before .before .before .before .before .before .before .before .before .before .before .before .before .before .args .t) (c .before .before .before .before .before .before .before .before .before .before .before .before .before .before .before .before .before .before .before .before .before .before .before .before .before .before .before .before .before .before .before .before .before .before .args .l) (p .0) (p .1) (p .2) in
+    let at = able .placed in
+    let f = c .before .before .before .before .before .before .before in
+    let o = c .before .before .before .before .before .before .before .before .before .before .before .before .before in
+    let s = c .before .before .before .before .before .before .before .before .before .before .before .before .before .before .before .before .before .before .before in
+    let v = c .before .before .before .before .before .before .before .before .before .before .before .before .before .before .before .before .before .before .before .before .before .before .before .before in
+    all-stored (c .before .before .before .before .before .before .before .before .before .before .before .before .before .before .before .before .before .before .before .before .before .before .before .before .before .before .before .before .before .before .before .before .before .before .args .t) (c .before .before .before .before .before .before .before .before .before .before .before .before .before .before .before .before .before .before .before .before .before .before .before .before .before .before .before .before .before .before .before .before .before .before .args .l) able _ _ _ _ _ _ _ _ _ _ (omega (arith, fileLength-is _ (p .0) (p .1), p .3)) (omega (arith, at .figures-at, at .end-at)) (v .before .level-word .ensures) (v .put-word .ensures) (s .before .shape-word .ensures) (s .put-word2 .ensures) (o .write-offers .ensures) (f .write-figures .ensures) (c .before .before .before .end-word .ensures) (c .before .before .put-word3 .ensures)
 
 pub write-words-spec : {M : Type 1} → statement M
 write-words-spec =
     tie.close
     (tie.spec
-    Inv-loop
-    μ-loop
-    loop-holds
-    word-of-requires
-    put-word-requires
+    level-word-requires
+    (λ c κs. search needs)
+    shape-word-requires
+    put-word-requires-2
     (λ c. search needs)
     (λ c. search needs)
-    loop-again
-    same-length
+    write-offers-requires
+    (λ c. search needs)
+    sub-write-figures
+    write-figures-requires
+    end-word-requires
+    put-word-requires-3
+    (λ c. search needs)
     returns)

@@ -1,6 +1,7 @@
 -- Differences one by one; nothing has to be known of the line.
 use Prim.Native.Nat.{_-_}
 use borrow.Author.Needs.{needs}
+use Rattle.limits.specs.Limits.{figuresMost}
 use Rattle.vectors.proofs.trials.differences.Statement.{statement}
 use Rattle.vectors.proofs.trials.differences.Tie as tie
 
@@ -8,7 +9,7 @@ abbrev Inv-loop : tie.InvT-loop
 Inv-loop xs q₀ i₀ q i = Unit
 
 abbrev μ-loop : tie.MeasureT-loop
-μ-loop xs q₀ i₀ q i = 144 - i
+μ-loop xs q₀ i₀ q i = figuresMost - i
 
 pub differences-spec : {M : Type 1} → statement M
 differences-spec =

@@ -1,6 +1,7 @@
 -- Offers one by one; nothing has to be known of the line.
 use Prim.Native.Nat.{_-_}
 use borrow.Author.Needs.{needs}
+use Rattle.limits.specs.Limits.{offersMost}
 use Rattle.vectors.proofs.trials.offers.Statement.{statement}
 use Rattle.vectors.proofs.trials.offers.Tie as tie
 
@@ -8,7 +9,7 @@ abbrev Inv-loop : tie.InvT-loop
 Inv-loop codes digits q₀ i₀ q i = Unit
 
 abbrev μ-loop : tie.MeasureT-loop
-μ-loop codes digits q₀ i₀ q i = 16 - i
+μ-loop codes digits q₀ i₀ q i = offersMost - i
 
 pub offers-spec : {M : Type 1} → statement M
 offers-spec =

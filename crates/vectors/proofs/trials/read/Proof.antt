@@ -3,14 +3,15 @@ use mathlib.Core.Path.{_≡_}
 use Prim.Native.Nat.{_-_}
 use lib.ListN.{length}
 use borrow.Author.Needs.{needs}
+use Rattle.limits.specs.Limits.{offersMost}
 use Rattle.vectors.proofs.trials.read.Statement.{statement}
 use Rattle.vectors.proofs.trials.read.Tie as tie
 
 abbrev Inv-loop : tie.InvT-loop
-Inv-loop codes₀ digits₀ i₀ codes digits i = (length codes ≡ 16) × (length digits ≡ 16)
+Inv-loop codes₀ digits₀ i₀ codes digits i = (length codes ≡ offersMost) × (length digits ≡ offersMost)
 
 abbrev μ-loop : tie.MeasureT-loop
-μ-loop codes₀ digits₀ i₀ codes digits i = 16 - i
+μ-loop codes₀ digits₀ i₀ codes digits i = offersMost - i
 
 pub read-spec : {M : Type 1} → statement M
 read-spec =

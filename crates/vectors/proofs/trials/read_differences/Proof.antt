@@ -3,14 +3,15 @@ use mathlib.Core.Path.{_≡_}
 use Prim.Native.Nat.{_-_}
 use lib.ListN.{length}
 use borrow.Author.Needs.{needs}
+use Rattle.limits.specs.Limits.{figuresMost}
 use Rattle.vectors.proofs.trials.read_differences.Statement.{statement}
 use Rattle.vectors.proofs.trials.read_differences.Tie as tie
 
 abbrev Inv-loop : tie.InvT-loop
-Inv-loop given xs₀ i₀ xs i = length xs ≡ 144
+Inv-loop given xs₀ i₀ xs i = length xs ≡ figuresMost
 
 abbrev μ-loop : tie.MeasureT-loop
-μ-loop given xs₀ i₀ xs i = 144 - i
+μ-loop given xs₀ i₀ xs i = figuresMost - i
 
 pub read-differences-spec : {M : Type 1} → statement M
 read-differences-spec =

@@ -1,0 +1,165 @@
+-- Laws for judging a file: the tests of each place as the code makes them, and one part after another.
+--   level-judged .. end-judged                   the tests of one place, in order
+--   seen-hit, seen-turn, seen-none               looking back at earlier numbers
+--   body-offers, body-figures, body-end          the words after the shape
+--   shape-most                                   the counts of a shape that passes
+--   length-bad, level-decides, shape-decides, to-body   the whole file
+use Prim.Native.Nat.{ℕ, _+_, _-_, _/_, _%_, _≤_, _<_}
+use native.Mathlib.Omega.{arith}
+use mathlib.Core.Path.{_≡_, refl, sym, ap, ap₂, _∙_, subst}
+use mathlib.Core.Bool.{Bool, true, false, not, cond, _||_}
+use mathlib.Core.List.{List, [], _∷_, _++_}
+use lib.ListN.{length}
+use lib.Dec.{ltb, eqb}
+use lib.IntN.{ℤ}
+use mir.Syntax.{w32}
+use mir.Val.{toZ, ofZ}
+use Rattle.limits.specs.Limits.{offersMost, pairsMost}
+use Rattle.order.proofs.Booleans.{holds, passes}
+use Rattle.refusals.specs.Answers.{r2, r3, r4, r7, r8, Checks, placesFrom, firstRefusal}
+use Rattle.refusals.specs.Limits.{badColumns, badLevel}
+use Rattle.refusals.proofs.Answers.{none-holds, judged, judged-last, first-decides, first-passes}
+use Rattle.refusals.proofs.Limits.{or-none, fitting}
+use Rattle.trial.specs.Designs.{designChecks, unitsOf}
+use Rattle.trial.specs.Record.{figureCount}
+use Rattle.trial.specs.Refusals.{badDigits, among, badDifference, earlier, offerChecks}
+use Rattle.trial.specs.declared.Level.{Level}
+use Rattle.trial.specs.declared.Shape.{Shape}
+use Rattle.trial.proofs.Conditions.{earlier-hit, earlier-turn, earlier-none}
+use Rattle.trial.proofs.LaidOut.{laid-out}
+use Rattle.words.specs.Words.{wordsOf, word, kindOf, unusedOf, kOf, offersOf, digitsOf, codeOf, differenceOf, countOf}
+use Rattle.trialfile.specs.Layouts.{levelAt, shapeAt, layoutOf, offerAt, figureAt}
+use Rattle.words.specs.Words.{levelIn, shapeIn}
+use Rattle.trialfile.specs.Files.{codeIn, digitsIn, badLength, otherKind, levelPlace, shapePlace, offerPlace, figurePlace, endPlace, bodyPlaces, placeChecks, fileChecks, fileRefusal}
+use Rattle.trialfile.specs.declared.layout.Layout.{Layout}
+use Rattle.words.proofs.Signed.{field-kept}
+use Rattle.words.proofs.Words.{wordsOf-length}
+use Rattle.trial.proofs.Conditions as conditions
+
+-- the kind before all else
+kind-first : (w k q kind : ℕ) (cs : Checks) (r v : ℕ) → w ≡ k → q ≡ kindOf w → r ≡ cond (not (eqb q kind)) 2 v → v ≡ firstRefusal cs → r ≡ firstRefusal ((otherKind kind k, r2) ∷ cs)
+kind-first w k q kind cs r v e f h g = judged (not (eqb q kind)) _ r2 r (ap (λ (x : ℕ). not (eqb x kind)) (f ∙ ap kindOf e)) cs v g h
+
+-- two conditions of one number are one
+either : (b c : Bool) (n m : ℕ) → cond b n (cond c n m) ≡ cond (b || c) n m
+either true c n m = refl
+either false c n m = refl
+
+-- ---- one place: the tests of the code, in order
+
+pub level-judged : (w q r v : ℕ) (l : Level) (b : Bool) → q ≡ kindOf w → l ≡ levelIn w → b ≡ badLevel (l .a) (l .b) → v ≡ cond b 3 0 → r ≡ cond (not (eqb q 1)) 2 v → r ≡ firstRefusal (levelPlace w)
+level-judged w q r v l b e f g h k = kind-first w w q 1 _ r v refl e k (judged-last b _ r3 v (g ∙ ap (λ (x : Level). badLevel (x .a) (x .b)) f) h)
+
+pub shape-judged : (w q u : ℕ) (s : Shape) (b : Bool) (laid spare four r : ℕ) → q ≡ kindOf w → s ≡ shapeIn w → b ≡ badColumns offersMost (s .offers) (s .k) → u ≡ unusedOf w
+    → laid ≡ firstRefusal (designChecks (s .design)) → spare ≡ cond (not (eqb u 0)) 4 laid → four ≡ cond b 4 spare → r ≡ cond (not (eqb q 2)) 2 four → r ≡ firstRefusal (shapePlace w)
+shape-judged w q u s b laid spare four r e f g h l m n k =
+    kind-first w w q 2 _ r four refl e k
+    (judged (b || not (eqb u 0)) _ r4 four (ap₂ _||_ (g ∙ ap (λ (x : Shape). badColumns offersMost (x .offers) (x .k)) f) (ap (λ (x : ℕ). not (eqb x 0)) h)) _ laid
+    (l ∙ ap (λ (x : Shape). firstRefusal (designChecks (x .design))) f) (n ∙ ap (cond b 4) m ∙ either b (not (eqb u 0)) 4 laid))
+
+module _ (ws : List ℕ) (l : Layout) (i : ℕ) where
+  pub offer-judged : (w q code d : ℕ) (b s : Bool) (u v r : ℕ) → w ≡ word ws (offerAt l i) → q ≡ kindOf w → code ≡ codeOf w → d ≡ digitsOf w → b ≡ badDigits code d
+      → s ≡ among code (earlier (codeIn ws l) i) → u ≡ cond s 6 0 → v ≡ cond b 5 u → r ≡ cond (not (eqb q 3)) 2 v → r ≡ firstRefusal (offerPlace ws l i)
+  offer-judged w q code d b s u v r e f g h p m n o k =
+      let c = g ∙ ap codeOf e in
+      kind-first w (word ws (offerAt l i)) q 3 (offerChecks (codeIn ws l) (digitsIn ws l) i) r v e f k
+      (conditions.offer-judged (codeIn ws l) (digitsIn ws l) i b s u v (p ∙ ap₂ badDigits c (h ∙ ap digitsOf e)) (m ∙ ap (λ (x : ℕ). among x (earlier (codeIn ws l) i)) c) n o)
+
+  pub figure-judged : (w q : ℕ) (z : ℤ) (b : Bool) (v r : ℕ) → w ≡ word ws (figureAt l i) → q ≡ kindOf w → z ≡ differenceOf w → b ≡ badDifference (toZ w32 (ofZ w32 z)) → v ≡ cond b 7 0
+      → r ≡ cond (not (eqb q 4)) 2 v → r ≡ firstRefusal (figurePlace ws l i)
+  figure-judged w q z b v r e f d g h k =
+      kind-first w (word ws (figureAt l i)) q 4 _ r v e f k
+      (judged-last b _ r7 v (g ∙ ap badDifference (field-kept (w % 268435456) z (omega arith) d ∙ ap differenceOf e)) h)
+
+pub end-judged : (bs : List ℕ) (n w q c u v r : ℕ) → w ≡ word (wordsOf bs) n → q ≡ kindOf w → c ≡ countOf w → u ≡ cond (ltb (n + 1) (length bs / 4)) 8 0 → v ≡ cond (not (eqb c n)) 8 u
+    → r ≡ cond (not (eqb q 15)) 2 v → r ≡ firstRefusal (endPlace (wordsOf bs) n)
+end-judged bs n w q c u v r e f g h k m =
+    kind-first w (word (wordsOf bs) n) q 15 _ r v e f m
+    (judged-last (not (eqb c n) || ltb (n + 1) (length bs / 4)) _ r8 v (ap₂ _||_ (ap (λ (x : ℕ). not (eqb x n)) (g ∙ ap countOf e)) (ap (ltb (n + 1)) (sym (wordsOf-length bs))))
+    (k ∙ ap (cond (not (eqb c n)) 8) h ∙ either (not (eqb c n)) (ltb (n + 1) (length bs / 4)) 8 0))
+
+-- ---- earlier offers
+
+module _ (ws : List ℕ) (l : Layout) (code i w c : ℕ) (h : 0 < i) (e : w ≡ word ws (offerAt l (i - 1))) (f : c ≡ codeOf w) where
+  pub seen-hit : code ≡ c → among code (earlier (codeIn ws l) i) ≡ true
+  seen-hit g = earlier-hit (codeIn ws l) code i h (g ∙ f ∙ ap codeOf e)
+
+  pub seen-turn : (code ≡ c → ⊥) → among code (earlier (codeIn ws l) i) ≡ among code (earlier (codeIn ws l) (i - 1))
+  seen-turn g = earlier-turn (codeIn ws l) code i h (λ q. g (q ∙ sym (f ∙ ap codeOf e)))
+
+pub seen-none : (ws : List ℕ) (l : Layout) (code i : ℕ) → i ≤ 0 → among code (earlier (codeIn ws l) i) ≡ false
+seen-none ws l code i h = earlier-none (codeIn ws l) code i h
+
+-- ---- the words after the shape
+
+module _ (ws : List ℕ) (s : Shape) (l : Layout) (at : l ≡ layoutOf s) where
+  abbrev offersPart : Layout → Checks
+  offersPart l = placesFrom (offerPlace ws l) 0 (s .offers)
+
+  abbrev figuresPart : Layout → Checks
+  figuresPart l = placesFrom (figurePlace ws l) 0 (figureCount s)
+
+  body-is : firstRefusal (bodyPlaces ws s) ≡ firstRefusal (offersPart l ++ (figuresPart l ++ endPlace ws (l .end)))
+  unfolding bodyPlaces
+  body-is = ap (λ (m : Layout). firstRefusal (offersPart m ++ (figuresPart m ++ endPlace ws (m .end)))) (sym at)
+
+  module _ (o : ℕ) (e : o ≡ firstRefusal (offersPart l)) where
+    pub body-offers : (o ≡ 0 → ⊥) → firstRefusal (bodyPlaces ws s) ≡ o
+    body-offers f = body-is ∙ first-decides (offersPart l) (figuresPart l ++ endPlace ws (l .end)) o e f
+
+    module _ (z : o ≡ 0) (n d : ℕ) (q : n ≡ figureCount s) (g : d ≡ firstRefusal (placesFrom (figurePlace ws l) 0 n)) where
+      past-offers : firstRefusal (bodyPlaces ws s) ≡ firstRefusal (figuresPart l ++ endPlace ws (l .end))
+      past-offers = body-is ∙ first-passes (offersPart l) (figuresPart l ++ endPlace ws (l .end)) o e z
+
+      figured : d ≡ firstRefusal (figuresPart l)
+      figured = g ∙ ap (λ (m : ℕ). firstRefusal (placesFrom (figurePlace ws l) 0 m)) q
+
+      pub body-figures : (d ≡ 0 → ⊥) → firstRefusal (bodyPlaces ws s) ≡ d
+      body-figures f = past-offers ∙ first-decides (figuresPart l) (endPlace ws (l .end)) d figured f
+
+      pub body-end : d ≡ 0 → (r : ℕ) → r ≡ firstRefusal (endPlace ws (l .end)) → firstRefusal (bodyPlaces ws s) ≡ r
+      body-end y r h = past-offers ∙ first-passes (figuresPart l) (endPlace ws (l .end)) d figured y ∙ sym h
+
+-- ---- the whole file
+
+-- the counts of a shape that passes
+pub shape-most : (w r : ℕ) (s : Shape) → r ≡ firstRefusal (shapePlace w) → r ≡ 0 → s ≡ shapeIn w → (s .offers ≤ offersMost) × (unitsOf (s .design) ≤ pairsMost)
+shape-most w r s f z e =
+    let h = none-holds (shapePlace w) (sym f ∙ z) in
+    let c = or-none (badColumns offersMost (offersOf w) (kOf w)) (not (eqb (unusedOf w) 0)) (h .1 .0) in
+    subst (λ (x : Shape). (x .offers ≤ offersMost) × (unitsOf (x .design) ≤ pairsMost)) (sym e) (fitting offersMost (offersOf w) (kOf w) (c .0) .columns-most, laid-out (shapeIn w .design) (h .1 .1) .units-most)
+
+module _ (bs : List ℕ) (b : Bool) (r : b ≡ badLength bs) where
+  abbrev ws : List ℕ
+  ws = wordsOf bs
+
+  abbrev body : Checks
+  body = bodyPlaces ws (shapeIn (word ws shapeAt))
+
+  pub length-bad : b ≡ true → fileRefusal bs ≡ 1
+  unfolding fileRefusal fileChecks firstRefusal
+  length-bad h = sym (holds (badLength bs) 1 (firstRefusal (placeChecks ws)) (sym r ∙ h))
+
+  module _ (h : b ≡ false) (w l : ℕ) (at : w ≡ word (wordsOf bs) levelAt) (e : l ≡ firstRefusal (levelPlace w)) where
+    to-words : fileRefusal bs ≡ firstRefusal (levelPlace (word ws levelAt) ++ (shapePlace (word ws shapeAt) ++ body))
+    unfolding fileRefusal fileChecks placeChecks firstRefusal
+    to-words = sym (passes (badLength bs) 1 (firstRefusal (placeChecks ws)) _ (sym r ∙ h) refl)
+
+    levelled : l ≡ firstRefusal (levelPlace (word ws levelAt))
+    levelled = e ∙ ap (λ (x : ℕ). firstRefusal (levelPlace x)) at
+
+    pub level-decides : (l ≡ 0 → ⊥) → fileRefusal bs ≡ l
+    level-decides z = to-words ∙ first-decides (levelPlace (word ws levelAt)) (shapePlace (word ws shapeAt) ++ body) l levelled z
+
+    module _ (z : l ≡ 0) (v s : ℕ) (there : v ≡ word (wordsOf bs) shapeAt) (f : s ≡ firstRefusal (shapePlace v)) where
+      past-level : fileRefusal bs ≡ firstRefusal (shapePlace (word ws shapeAt) ++ body)
+      past-level = to-words ∙ first-passes (levelPlace (word ws levelAt)) (shapePlace (word ws shapeAt) ++ body) l levelled z
+
+      shaped : s ≡ firstRefusal (shapePlace (word ws shapeAt))
+      shaped = f ∙ ap (λ (x : ℕ). firstRefusal (shapePlace x)) there
+
+      pub shape-decides : (s ≡ 0 → ⊥) → fileRefusal bs ≡ s
+      shape-decides y = past-level ∙ first-decides (shapePlace (word ws shapeAt)) body s shaped y
+
+      pub to-body : s ≡ 0 → (x : Shape) (n : ℕ) → x ≡ shapeIn v → n ≡ firstRefusal (bodyPlaces ws x) → n ≡ fileRefusal bs
+      to-body y x n g k = k ∙ ap (λ (u : Shape). firstRefusal (bodyPlaces ws u)) (g ∙ ap shapeIn there) ∙ sym (past-level ∙ first-passes (shapePlace (word ws shapeAt)) body s shaped y)

@@ -1,0 +1,33 @@
+-- The one layout of a trial file (document 01): level, shape, offers, figures, end. Places count words from 0. Definitions only.
+--   levelAt, shapeAt       the places of the level and the shape
+--   wordsPerOffer          how many words an offer has
+--   layoutOf s             where the offers, the figures and the end of a file of this shape stand
+--   offerAt l i            the place of offer i (from 0)
+--   figureAt l i           the place of figure i, offer by offer
+--   wordTotal s            how many words a file of this shape has
+use Prim.Native.Nat.{ℕ, _+_, _*_}
+use Rattle.trial.specs.Record.{figureCount}
+use Rattle.trial.specs.declared.Shape.{Shape}
+use Rattle.trialfile.specs.declared.layout.Layout.{Layout}
+
+abbrev pub levelAt : ℕ
+levelAt = 0
+
+abbrev pub shapeAt : ℕ
+shapeAt = 1
+
+abbrev pub wordsPerOffer : ℕ
+wordsPerOffer = 1
+
+unfoldable pub layoutOf : Shape → Layout
+unfolding figureCount
+layoutOf s = record { offers = 2; figures = 2 + s .offers * wordsPerOffer; end = 2 + s .offers * wordsPerOffer + figureCount s }
+
+abbrev pub offerAt : Layout → ℕ → ℕ
+offerAt l i = l .offers + i * wordsPerOffer
+
+abbrev pub figureAt : Layout → ℕ → ℕ
+figureAt l i = l .figures + i
+
+abbrev pub wordTotal : Shape → ℕ
+wordTotal s = layoutOf s .end + 1

@@ -1,0 +1,134 @@
+-- The words of a trial file (document 01): 32 bits, little-endian; bits 31 to 28 are the kind. Definitions only.
+--   Bytes bs                          every member is a byte
+--   wordsOf bytes                     the words that bytes hold
+--   wordBytes w, bytesOf ws           the bytes of a word, of words
+--   word ws i                         the word at place i; a missing word reads as 0, whose kind no place needs
+--   kindOf w                          bits 31-28
+--   levelKind .. endKind              the kinds 1, 2, 3, 4 and 15
+--   aOf, bOf                          level: bits 27-14, 13-0
+--   unusedOf, kOf, offersOf, pairsOf  shape: bits 27-24, 23-16, 15-8, 7-0
+--   digitsOf, codeOf                  offer: bits 27-24, 23-0
+--   levelIn, shapeIn                  the level and the shape that a word holds
+--   signed, differenceOf              difference: bits 27-0, two's complement
+--   countOf                           end: bits 27-0
+--   bitsOf d                          bits 27-0 of a difference, two's complement
+--   levelWord .. endWord              the word of each kind that holds the given values
+--   shapeWordOf k offers d            the shape word, by how the trial was laid out
+use Prim.Native.Nat.{ℕ, _+_, _-_, _*_, _/_, _%_}
+use mathlib.Core.Bool.{cond}
+use mathlib.Core.List.{List, [], _∷_, _++_}
+use lib.ListN.{getD}
+use lib.Dec.{T, ltb}
+use Rattle.order.specs.Counting.{all}
+use lib.IntN.{ℤ, pos, negsuc}
+use Rattle.trial.specs.declared.Design.{Design}
+use Rattle.trial.specs.declared.Design.the-variants.{Paired}
+use Rattle.trial.specs.declared.Level.{Level}
+use Rattle.trial.specs.declared.Shape.{Shape}
+
+-- ---- words and bytes
+
+abbrev pub Bytes : List ℕ → Type 0
+Bytes bs = T (all (λ b. ltb b 256) bs)
+
+unfoldable pub wordsOf : List ℕ → List ℕ
+wordsOf [] = []
+wordsOf (b0 ∷ []) = []
+wordsOf (b0 ∷ b1 ∷ []) = []
+wordsOf (b0 ∷ b1 ∷ b2 ∷ []) = []
+wordsOf (b0 ∷ b1 ∷ b2 ∷ b3 ∷ bs) = (b0 + 256 * b1 + 65536 * b2 + 16777216 * b3) ∷ wordsOf bs
+
+abbrev pub wordBytes : ℕ → List ℕ
+wordBytes w = w % 256 ∷ w / 256 % 256 ∷ w / 65536 % 256 ∷ w / 16777216 ∷ []
+
+unfoldable pub bytesOf : List ℕ → List ℕ
+bytesOf [] = []
+bytesOf (w ∷ ws) = wordBytes w ++ bytesOf ws
+
+abbrev pub word : List ℕ → ℕ → ℕ
+word ws i = getD ws i 0
+
+-- ---- what a word holds
+
+abbrev pub kindOf : ℕ → ℕ
+kindOf w = w / 268435456
+
+abbrev pub levelKind : ℕ
+levelKind = 1
+
+abbrev pub shapeKind : ℕ
+shapeKind = 2
+
+abbrev pub offerKind : ℕ
+offerKind = 3
+
+abbrev pub differenceKind : ℕ
+differenceKind = 4
+
+abbrev pub endKind : ℕ
+endKind = 15
+
+abbrev pub aOf : ℕ → ℕ
+aOf w = w / 16384 % 16384
+
+abbrev pub bOf : ℕ → ℕ
+bOf w = w % 16384
+
+abbrev pub unusedOf : ℕ → ℕ
+unusedOf w = w / 16777216 % 16
+
+abbrev pub kOf : ℕ → ℕ
+kOf w = w / 65536 % 256
+
+abbrev pub offersOf : ℕ → ℕ
+offersOf w = w / 256 % 256
+
+abbrev pub pairsOf : ℕ → ℕ
+pairsOf w = w % 256
+
+abbrev pub digitsOf : ℕ → ℕ
+digitsOf w = w / 16777216 % 16
+
+abbrev pub codeOf : ℕ → ℕ
+codeOf w = w % 16777216
+
+abbrev pub levelIn : ℕ → Level
+levelIn w = record { a = aOf w; b = bOf w }
+
+abbrev pub shapeIn : ℕ → Shape
+shapeIn w = record { k = kOf w; offers = offersOf w; design = Paired (pairsOf w) }
+
+-- a number below 2^28 as two's complement
+unfoldable pub signed : ℕ → ℤ
+signed v = cond (ltb v 134217728) (pos v) (negsuc (268435455 - v))
+
+abbrev pub differenceOf : ℕ → ℤ
+differenceOf w = signed (w % 268435456)
+
+abbrev pub countOf : ℕ → ℕ
+countOf w = w % 268435456
+
+-- ---- the word that holds given values
+
+abbrev pub levelWord : ℕ → ℕ → ℕ
+levelWord a b = levelKind * 268435456 + a * 16384 + b
+
+abbrev pub shapeWord : ℕ → ℕ → ℕ → ℕ
+shapeWord k offers pairs = shapeKind * 268435456 + k * 65536 + offers * 256 + pairs
+
+unfoldable pub shapeWordOf : ℕ → ℕ → Design → ℕ
+shapeWordOf k offers (Paired pairs) = shapeWord k offers pairs
+
+abbrev pub offerWord : ℕ → ℕ → ℕ
+offerWord code digits = offerKind * 268435456 + digits * 16777216 + code
+
+-- bits 27-0 of a difference
+unfoldable pub bitsOf : ℤ → ℕ
+bitsOf (pos n) = n
+bitsOf (negsuc n) = 268435455 - n
+
+abbrev pub differenceWord : ℤ → ℕ
+differenceWord d = differenceKind * 268435456 + bitsOf d
+
+abbrev pub endWord : ℕ → ℕ
+endWord n = endKind * 268435456 + n
