@@ -1,7 +1,7 @@
 -- Laws by which the checks of a record are proved.
 --   digits-..                        the tests of 5, one after the other
 --   earlier-..                       one more number, the last first (6)
---   offer-judged, figure-judged      the conditions of one place, as the code tests them
+--   offer-judged, offer-beyond, figure-judged     the conditions of one place, as the code tests them
 --   offer-same                       numbers and digits that agree are judged alike
 --   heading-..                       4, what the layout adds, and 3
 --   refusal-..                       each answer is the first condition of the record's list that holds
@@ -10,7 +10,7 @@ use native.Mathlib.Omega.{arith}
 use mathlib.Core.Path.{_≡_, refl, sym, ap, ap₂, _∙_, subst}
 use mathlib.Core.Bool.{Bool, true, false, cond, _||_}
 use mathlib.Core.List.{List, [], _∷_, _++_}
-use lib.ListN.{length, getD, take}
+use lib.ListN.{length, getD, take, List·getD-eq-default}
 use lib.Seq.{getD-take}
 use lib.Dec.{T, leb, eqb}
 use lib.IntN.{ℤ, pos, negsuc}
@@ -62,10 +62,6 @@ module _ (c d : ℕ) (b : Bool) (e : b ≡ outside 1 digitsMost d) where
   unfolding badDigits
   digits-few h = or-passes (outside 1 digitsMost d) (leb (10 ^ d) c) (leb (getD limits d 0) c) (sym e ∙ h) (ap (λ (n : ℕ). leb n c) (limit d (digits-most d b e h)))
 
--- of digits in a byte
-pub digits-wide : (c d n : ℕ) (b : Bool) → n ≡ d → b ≡ badDigits c n → b ≡ badDigits c d
-digits-wide c d n b e f = f ∙ ap (badDigits c) e
-
 -- ---- 6
 
 module _ (code : ℕ → ℕ) (c j : ℕ) where
@@ -87,6 +83,15 @@ module _ (code : ℕ → ℕ) (c j : ℕ) where
 pub offer-judged : (code digits : ℕ → ℕ) (i : ℕ) (b q : Bool) (s r : ℕ) → b ≡ badDigits (code i) (digits i) → q ≡ among (code i) (earlier code i) → s ≡ cond q 6 0 → r ≡ cond b 5 s
     → r ≡ firstRefusal (offerChecks code digits i)
 offer-judged code digits i b q s r e g six five = judged b _ r5 r e _ s (judged-last q _ r6 s g six) five
+
+-- beyond the last place no digits are printed
+zero-digits : (c : ℕ) → badDigits c 0 ≡ true
+unfolding badDigits
+zero-digits c = refl
+
+pub offer-beyond : (codes digits : List ℕ) (i : ℕ) → length digits ≤ i → 5 ≡ firstRefusal (offerChecks (nth codes 0) (nth digits 0) i)
+unfolding firstRefusal
+offer-beyond codes digits i h = holds (badDigits (getD codes i 0) (getD digits i 0)) 5 _ (ap (badDigits (getD codes i 0)) (List·getD-eq-default digits 0 h) ∙ zero-digits (getD codes i 0))
 
 -- numbers and digits that agree are judged alike
 module _ (f g d e : ℕ → ℕ) (n : ℕ) (h : (j : ℕ) → j < n → f j ≡ g j) (k : (j : ℕ) → j < n → d j ≡ e j) where

@@ -1,4 +1,5 @@
 // The conditions of refusals 4 to 7, in the words of specs/Refusals.
+use crate::Labels;
 use crate::Level;
 use crate::Shape;
 use crate::designs;
@@ -68,25 +69,29 @@ fn earlier(codes: &[u32], i: usize, code: u32) -> bool
     false
 }
 
-// A byte as a number.
-fn wide(x: u8) -> usize
-    ensures { λ r. ⌜ r ≡ x ⌝ }
+// The refusal of offer i among these labels: 5 before 6. Beyond the last place no digits are printed.
+pub fn offer_refusal(labels: Labels, i: usize) -> u32
+    ensures { λ r. ⌜ r ≡ firstRefusal (offerChecks (nth (labels .codes) 0) (nth (labels .digits) 0) i) ⌝ }
 {
-    x as usize
+    if OFFERS_MOST <= i {
+        return 5;
+    }
+    let codes = labels.codes;
+    let digits = labels.digits;
+    let code = codes[i];
+    let misprinted = bad_digits(code, digits[i] as usize);
+    let repeated = earlier(&codes, i, code);
+    let six = first_of(repeated, 6, 0);
+    first_of(misprinted, 5, six)
 }
 
-// The first refusal among the offers, 5 before 6 at each.
-pub(crate) fn offers(codes: &[u32], digits: &[u8], n: usize) -> u32
-    requires { ⌜ (n ≤ length (now codes)) × (n ≤ length (now digits)) ⌝ }
-    ensures { λ r. ⌜ r ≡ firstRefusal (placesFrom (offerChecks (nth (now (codes .entry)) 0) (nth (now (digits .entry)) 0)) 0 n) ⌝ }
+// The first refusal among n offers.
+pub(crate) fn offers(labels: Labels, n: usize) -> u32
+    ensures { λ r. ⌜ r ≡ firstRefusal (placesFrom (offerChecks (nth (labels .codes) 0) (nth (labels .digits) 0)) 0 n) ⌝ }
 {
     let mut i: usize = 0;
     while i < n {
-        let code = codes[i];
-        let misprinted = bad_digits(code, wide(digits[i]));
-        let repeated = earlier(codes, i, code);
-        let six = first_of(repeated, 6, 0);
-        let r = first_of(misprinted, 5, six);
+        let r = offer_refusal(labels, i);
         if r != 0 {
             return r;
         }

@@ -8,6 +8,7 @@ mod entries; // the table, by doubling
 pub use checks::bad_difference;
 pub use checks::bad_digits;
 pub use checks::first_of;
+pub use checks::offer_refusal;
 pub use designs::design_refusal;
 pub use designs::units;
 use limits::FIGURES_MOST;
@@ -68,9 +69,7 @@ pub fn check(t: Trial) -> u32
         return f;
     }
     let labels = t.labels;
-    let codes = labels.codes;
-    let digits = labels.digits;
-    let r = checks::offers(&codes, &digits, shape.offers);
+    let r = checks::offers(labels, shape.offers);
     if r != 0 {
         return r;
     }

@@ -1,6 +1,6 @@
 -- Laws for judging a file: the tests of each place as the code makes them, and one part after another.
 --   level-judged .. end-judged                   the tests of one place, in order
---   seen-hit, seen-turn, seen-none               looking back at earlier numbers
+--   offer-placed                                 an offer by the labels that were read
 --   body-offers, body-figures, body-end          the words after the shape
 --   shape-most                                   the counts of a shape that passes
 --   length-bad, level-decides, shape-decides, to-body   the whole file
@@ -9,32 +9,33 @@ use native.Mathlib.Omega.{arith}
 use mathlib.Core.Path.{_≡_, refl, sym, ap, ap₂, _∙_, subst}
 use mathlib.Core.Bool.{Bool, true, false, not, cond, _||_}
 use mathlib.Core.List.{List, [], _∷_, _++_}
-use lib.ListN.{length}
+use lib.ListN.{length, getD, replicate, List·getD-append}
 use lib.Dec.{ltb, eqb}
 use lib.IntN.{ℤ}
 use mir.Syntax.{w32}
 use mir.Val.{toZ, ofZ}
 use Rattle.limits.specs.Limits.{offersMost, pairsMost}
+use Rattle.order.specs.Lists.{tabulate, padded}
 use Rattle.order.proofs.Booleans.{holds, passes}
+use Rattle.order.proofs.Lists.{tabulate-length, tabulate-getD}
 use Rattle.refusals.specs.Answers.{r2, r3, r4, r7, r8, Checks, placesFrom, firstRefusal}
 use Rattle.refusals.specs.Limits.{badColumns, badLevel}
 use Rattle.refusals.proofs.Answers.{none-holds, judged, judged-last, first-decides, first-passes}
 use Rattle.refusals.proofs.Limits.{or-none, fitting}
 use Rattle.trial.specs.Designs.{designChecks, unitsOf}
 use Rattle.trial.specs.Record.{figureCount}
-use Rattle.trial.specs.Refusals.{badDigits, among, badDifference, earlier, offerChecks}
+use Rattle.trial.specs.Refusals.{badDifference, offerChecks, nth}
 use Rattle.trial.specs.declared.Level.{Level}
 use Rattle.trial.specs.declared.Shape.{Shape}
-use Rattle.trial.proofs.Conditions.{earlier-hit, earlier-turn, earlier-none}
+use Rattle.trial.proofs.Conditions.{offer-same}
 use Rattle.trial.proofs.LaidOut.{laid-out}
-use Rattle.words.specs.Words.{wordsOf, word, kindOf, unusedOf, kOf, offersOf, digitsOf, codeOf, differenceOf, countOf}
+use Rattle.words.specs.Words.{wordsOf, word, kindOf, unusedOf, kOf, offersOf, differenceOf, countOf}
 use Rattle.trialfile.specs.Layouts.{levelAt, shapeAt, layoutOf, offerAt, figureAt}
 use Rattle.words.specs.Words.{levelIn, shapeIn}
 use Rattle.trialfile.specs.Files.{codeIn, digitsIn, badLength, otherKind, levelPlace, shapePlace, offerPlace, figurePlace, endPlace, bodyPlaces, placeChecks, fileChecks, fileRefusal}
 use Rattle.trialfile.specs.declared.layout.Layout.{Layout}
 use Rattle.words.proofs.Signed.{field-kept}
 use Rattle.words.proofs.Words.{wordsOf-length}
-use Rattle.trial.proofs.Conditions as conditions
 
 -- the kind before all else
 kind-first : (w k q kind : ℕ) (cs : Checks) (r v : ℕ) → w ≡ k → q ≡ kindOf w → r ≡ cond (not (eqb q kind)) 2 v → v ≡ firstRefusal cs → r ≡ firstRefusal ((otherKind kind k, r2) ∷ cs)
@@ -57,14 +58,22 @@ shape-judged w q u s b laid spare four r e f g h l m n k =
     (judged (b || not (eqb u 0)) _ r4 four (ap₂ _||_ (g ∙ ap (λ (x : Shape). badColumns offersMost (x .offers) (x .k)) f) (ap (λ (x : ℕ). not (eqb x 0)) h)) _ laid
     (l ∙ ap (λ (x : Shape). firstRefusal (designChecks (x .design))) f) (n ∙ ap (cond b 4) m ∙ either b (not (eqb u 0)) 4 laid))
 
-module _ (ws : List ℕ) (l : Layout) (i : ℕ) where
-  pub offer-judged : (w q code d : ℕ) (b s : Bool) (u v r : ℕ) → w ≡ word ws (offerAt l i) → q ≡ kindOf w → code ≡ codeOf w → d ≡ digitsOf w → b ≡ badDigits code d
-      → s ≡ among code (earlier (codeIn ws l) i) → u ≡ cond s 6 0 → v ≡ cond b 5 u → r ≡ cond (not (eqb q 3)) 2 v → r ≡ firstRefusal (offerPlace ws l i)
-  offer-judged w q code d b s u v r e f g h p m n o k =
-      let c = g ∙ ap codeOf e in
-      kind-first w (word ws (offerAt l i)) q 3 (offerChecks (codeIn ws l) (digitsIn ws l) i) r v e f k
-      (conditions.offer-judged (codeIn ws l) (digitsIn ws l) i b s u v (p ∙ ap₂ badDigits c (h ∙ ap digitsOf e)) (m ∙ ap (λ (x : ℕ). among x (earlier (codeIn ws l) i)) c) n o)
+pub offer-judged : (w q i v r : ℕ) (codes digits : List ℕ) → q ≡ kindOf w → v ≡ firstRefusal (offerChecks (nth codes 0) (nth digits 0) i) → r ≡ cond (not (eqb q 3)) 2 v
+    → r ≡ firstRefusal ((otherKind 3 w, r2) ∷ offerChecks (nth codes 0) (nth digits 0) i)
+offer-judged w q i v r codes digits e f g = kind-first w w q 3 (offerChecks (nth codes 0) (nth digits 0) i) r v refl e g f
 
+-- with labels that were read from the file
+filled-at : (f : ℕ → ℕ) (n i : ℕ) (xs : List ℕ) → xs ≡ padded offersMost 0 (tabulate n f) → i < n → getD xs i 0 ≡ f i
+filled-at f n i xs e h =
+    ap (λ (l : List ℕ). getD l i 0) e ∙ List·getD-append (tabulate n f) (replicate (offersMost - length (tabulate n f)) 0) 0 i (omega (arith, tabulate-length n f)) ∙ tabulate-getD n f i 0 h
+
+pub offer-placed : (ws : List ℕ) (l : Layout) (n i w r : ℕ) (codes digits : List ℕ) → i < n → codes ≡ padded offersMost 0 (tabulate n (codeIn ws l)) → digits ≡ padded offersMost 0 (tabulate n (digitsIn ws l))
+    → w ≡ word ws (offerAt l i) → r ≡ firstRefusal ((otherKind 3 w, r2) ∷ offerChecks (nth codes 0) (nth digits 0) i) → r ≡ firstRefusal (offerPlace ws l i)
+offer-placed ws l n i w r codes digits h c d e f =
+    f ∙ ap₂ (λ (k : ℕ) (cs : Checks). firstRefusal ((otherKind 3 k, r2) ∷ cs)) e
+    (offer-same (nth codes 0) (codeIn ws l) (nth digits 0) (digitsIn ws l) n (λ j m. filled-at (codeIn ws l) n j codes c m) (λ j m. filled-at (digitsIn ws l) n j digits d m) i h)
+
+module _ (ws : List ℕ) (l : Layout) (i : ℕ) where
   pub figure-judged : (w q : ℕ) (z : ℤ) (b : Bool) (v r : ℕ) → w ≡ word ws (figureAt l i) → q ≡ kindOf w → z ≡ differenceOf w → b ≡ badDifference (toZ w32 (ofZ w32 z)) → v ≡ cond b 7 0
       → r ≡ cond (not (eqb q 4)) 2 v → r ≡ firstRefusal (figurePlace ws l i)
   figure-judged w q z b v r e f d g h k =
@@ -77,18 +86,6 @@ end-judged bs n w q c u v r e f g h k m =
     kind-first w (word (wordsOf bs) n) q 15 _ r v e f m
     (judged-last (not (eqb c n) || ltb (n + 1) (length bs / 4)) _ r8 v (ap₂ _||_ (ap (λ (x : ℕ). not (eqb x n)) (g ∙ ap countOf e)) (ap (ltb (n + 1)) (sym (wordsOf-length bs))))
     (k ∙ ap (cond (not (eqb c n)) 8) h ∙ either (not (eqb c n)) (ltb (n + 1) (length bs / 4)) 8 0))
-
--- ---- earlier offers
-
-module _ (ws : List ℕ) (l : Layout) (code i w c : ℕ) (h : 0 < i) (e : w ≡ word ws (offerAt l (i - 1))) (f : c ≡ codeOf w) where
-  pub seen-hit : code ≡ c → among code (earlier (codeIn ws l) i) ≡ true
-  seen-hit g = earlier-hit (codeIn ws l) code i h (g ∙ f ∙ ap codeOf e)
-
-  pub seen-turn : (code ≡ c → ⊥) → among code (earlier (codeIn ws l) i) ≡ among code (earlier (codeIn ws l) (i - 1))
-  seen-turn g = earlier-turn (codeIn ws l) code i h (λ q. g (q ∙ sym (f ∙ ap codeOf e)))
-
-pub seen-none : (ws : List ℕ) (l : Layout) (code i : ℕ) → i ≤ 0 → among code (earlier (codeIn ws l) i) ≡ false
-seen-none ws l code i h = earlier-none (codeIn ws l) code i h
 
 -- ---- the words after the shape
 

@@ -1,10 +1,12 @@
 -- Laws for reading: what an accepted file's shape fits into, and the answer.
---   shape-fits       the counts of an accepted file's shape
+--   shape-fits, file-long     the counts of an accepted file's shape, and that its words are there
 --   trial-read       the trial made of its parts
 --   refused, taken   the answer
-use Prim.Native.Nat.{ℕ, _≤_}
+use Prim.Native.Nat.{ℕ, _+_, _*_, _≤_}
+use native.Mathlib.Omega.{arith}
 use mathlib.Core.Path.{_≡_, refl, sym, ap, ap₂, _∙_, subst}
 use mathlib.Core.List.{List}
+use lib.ListN.{length}
 use lib.IntN.{ℤ, pos}
 use Rattle.limits.specs.Limits.{offersMost, pairsMost, figuresMost}
 use Rattle.order.specs.Lists.{tabulate, padded}
@@ -20,6 +22,7 @@ use Rattle.trialfile.specs.Layouts.{levelAt, shapeAt, layoutOf}
 use Rattle.words.specs.Words.{levelIn, shapeIn}
 use Rattle.trialfile.specs.Files.{codeIn, digitsIn, figureIn, contentsIn, trialOf, fileChecks, fileRefusal, readingOf}
 use Rattle.trialfile.specs.declared.layout.Layout.{Layout}
+use Rattle.words.proofs.Words.{wordsOf-length}
 use Rattle.trialfile.proofs.Passed.{file-passed}
 use Rattle.trialfile.proofs.RoundTrip.{read-taken}
 use Rattle.refusals.proofs.Answers as answers
@@ -30,6 +33,11 @@ shape-fits bs h v s e f =
     let w = word (wordsOf bs) shapeAt in
     subst (λ (x : Shape). (x .offers ≤ offersMost) × (unitsOf (x .design) ≤ pairsMost)) (sym (f ∙ ap shapeIn e))
     (fitting offersMost (shapeIn w .offers) (shapeIn w .k) (p .counts) .columns-most, laid-out (shapeIn w .design) (p .laid) .units-most)
+
+-- an accepted file has all its words
+pub file-long : (bs : List ℕ) → fileRefusal bs ≡ 0 → (v : ℕ) (s : Shape) (l : Layout) → v ≡ word (wordsOf bs) shapeAt → s ≡ shapeIn v → l ≡ layoutOf s → 4 * (l .end + 1) ≤ length bs
+file-long bs h v s l e f g =
+    subst (λ (x : Layout). 4 * (x .end + 1) ≤ length bs) (sym (g ∙ ap layoutOf (f ∙ ap shapeIn e))) (omega (arith, file-passed bs h .words-good .many, wordsOf-length bs))
 
 -- a trial of a level, a shape and words
 trialBy : List ℕ → Level → Shape → Trial

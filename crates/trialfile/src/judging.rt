@@ -1,18 +1,21 @@
 // What a file is turned away for: at each place, the first condition that holds.
 use super::layout;
+use super::reader;
 use layout::Layout;
 use limits::LONGEST_FILE;
 use limits::OFFERS_MOST;
+use trial::Labels;
 use trial::Shape;
 use trial::first_of;
 ghost use mathlib.Core.Path.{_≡_};
 ghost use Prim.Native.Nat.{_<_, _≤_};
 ghost use Rattle.limits.specs.Limits.{offersMost, pairsMost, figuresMost, longestFile};
-ghost use Rattle.refusals.specs.Answers.{placesFrom, firstRefusal};
+ghost use Rattle.refusals.specs.Answers.{r2, placesFrom, firstRefusal};
 ghost use Rattle.trial.specs.Designs.{unitsOf};
-ghost use Rattle.trial.specs.Refusals.{among, earlier};
-ghost use Rattle.words.specs.Words.{wordsOf};
-ghost use Rattle.trialfile.specs.Files.{codeIn, badLength, levelPlace, shapePlace, offerPlace, figurePlace, endPlace, bodyPlaces, fileRefusal};
+ghost use mathlib.Core.List.{_∷_};
+ghost use Rattle.trial.specs.Refusals.{offerChecks, nth};
+ghost use Rattle.words.specs.Words.{wordsOf, offerKind};
+ghost use Rattle.trialfile.specs.Files.{otherKind, badLength, levelPlace, shapePlace, offerPlace, figurePlace, endPlace, bodyPlaces, fileRefusal};
 
 // the condition of 1
 fn bad_length(file: &[u8]) -> bool
@@ -53,45 +56,25 @@ fn judge_shape(w: u32) -> u32
     first_of(other, 2, four)
 }
 
-// the condition of 6: one of the first n offers has the number
-fn seen(file: &[u8], l: Layout, n: usize, code: u32) -> bool
-    requires { ⌜ (n ≤ offersMost) × (l .offers ≤ longestFile) ⌝ }
-    ensures { λ r. ⌜ r ≡ among code (earlier (codeIn (wordsOf (now (file .entry))) l) n) ⌝ }
+// of offer i, whose word is w: the kind before the value
+fn judge_offer(w: u32, labels: Labels, i: usize) -> u32
+    ensures { λ r. ⌜ r ≡ firstRefusal ((otherKind offerKind w, r2) ∷ offerChecks (nth (labels .codes) 0) (nth (labels .digits) 0) i) ⌝ }
 {
-    let mut i = n;
-    while 0 < i {
-        i -= 1;
-        let earlier = words::word_at(file, l.offers + i * layout::WORDS_PER_OFFER);
-        if code == words::code_of(earlier) {
-            return true;
-        }
-    }
-    false
-}
-
-// of offer i: the kind before the value, and 5 before 6
-fn judge_offer(file: &[u8], l: Layout, i: usize) -> u32
-    requires { ⌜ (i < offersMost) × (l .offers ≤ longestFile) ⌝ }
-    ensures { λ r. ⌜ r ≡ firstRefusal (offerPlace (wordsOf (now (file .entry))) l i) ⌝ }
-{
-    let w = words::word_at(file, l.offers + i * layout::WORDS_PER_OFFER);
-    let code = words::code_of(w);
     let other = words::kind_of(w) != 3;
-    let unprintable = trial::bad_digits(code, words::digits_of(w) as usize);
-    let repeated = seen(file, l, i, code);
-    let six = first_of(repeated, 6, 0);
-    let five = first_of(unprintable, 5, six);
-    first_of(other, 2, five)
+    let value = trial::offer_refusal(labels, i);
+    first_of(other, 2, value)
 }
 
-// of n offers
+// of n offers: their labels are read first, so that numbers are compared in an array
 fn judge_offers(file: &[u8], l: Layout, n: usize) -> u32
     requires { ⌜ (n ≤ offersMost) × (l .offers ≤ longestFile) ⌝ }
     ensures { λ r. ⌜ r ≡ firstRefusal (placesFrom (offerPlace (wordsOf (now (file .entry))) l) 0 n) ⌝ }
 {
+    let labels = reader::read_labels(file, l, n);
     let mut i: usize = 0;
     while i < n {
-        let r = judge_offer(file, l, i);
+        let w = words::word_at(file, l.offers + i * layout::WORDS_PER_OFFER);
+        let r = judge_offer(w, labels, i);
         if r != 0 {
             return r;
         }

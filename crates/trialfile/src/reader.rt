@@ -1,5 +1,6 @@
 // The trial that an accepted file holds, read off by position.
 use super::layout;
+use super::word;
 use layout::Layout;
 use limits::FIGURES_MOST;
 use limits::OFFERS_MOST;
@@ -9,16 +10,17 @@ use trial::Level;
 use trial::Shape;
 use trial::Trial;
 ghost use mathlib.Core.Path.{_≡_};
-ghost use Prim.Native.Nat.{_≤_};
+ghost use Prim.Native.Nat.{_+_, _*_, _≤_};
+ghost use lib.ListN.{length};
 ghost use lib.IntN.{pos};
 ghost use Rattle.limits.specs.Limits.{offersMost, figuresMost, longestFile};
 ghost use Rattle.order.specs.Lists.{tabulate, padded};
 ghost use Rattle.trial.specs.Record.{blank};
-ghost use Rattle.words.specs.Words.{wordsOf};
+ghost use Rattle.words.specs.Words.{wordsOf, word};
 ghost use Rattle.trialfile.specs.Files.{codeIn, digitsIn, figureIn, trialOf, fileRefusal};
 
 // the labels of n offers
-fn read_labels(file: &[u8], l: Layout, n: usize) -> Labels
+pub(crate) fn read_labels(file: &[u8], l: Layout, n: usize) -> Labels
     requires { ⌜ (n ≤ offersMost) × (l .offers ≤ longestFile) ⌝ }
     ensures { λ r. ⌜ (r .codes ≡ padded offersMost 0 (tabulate n (codeIn (wordsOf (now (file .entry))) l))) × (r .digits ≡ padded offersMost 0 (tabulate n (digitsIn (wordsOf (now (file .entry))) l))) ⌝ }
 {
@@ -34,15 +36,28 @@ fn read_labels(file: &[u8], l: Layout, n: usize) -> Labels
     Labels { codes, digits }
 }
 
-// n figures
+// the word at place i of a file that has it
+fn word_here(file: &[u8], i: usize) -> u32
+    requires { ⌜ 4 * i + 4 ≤ length (now file) ⌝ }
+    ensures { λ r. ⌜ r ≡ word (wordsOf (now (file .entry))) i ⌝ }
+{
+    let at = 4 * i;
+    let b0 = word::wide(file[at]);
+    let b1 = word::wide(file[at + 1]);
+    let b2 = word::wide(file[at + 2]);
+    let b3 = word::wide(file[at + 3]);
+    b0 + 256 * b1 + 65536 * b2 + 16777216 * b3
+}
+
+// n figures of a file that has their words
 fn read_figures(file: &[u8], l: Layout, n: usize) -> [i32; FIGURES_MOST]
-    requires { ⌜ (n ≤ figuresMost) × (l .figures ≤ longestFile) ⌝ }
+    requires { ⌜ (n ≤ figuresMost) × (l .figures ≤ longestFile) × (4 * (l .figures + n) ≤ length (now file)) ⌝ }
     ensures { λ r. ⌜ r ≡ padded figuresMost (pos 0) (tabulate n (figureIn (wordsOf (now (file .entry))) l)) ⌝ }
 {
     let mut figures = [0i32; FIGURES_MOST];
     let mut i: usize = 0;
     while i < n {
-        let w = words::word_at(file, l.figures + i);
+        let w = word_here(file, l.figures + i);
         figures[i] = words::difference_of(w);
         i += 1;
     }

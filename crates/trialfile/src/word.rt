@@ -7,7 +7,7 @@ ghost use Rattle.limits.specs.Limits.{offersMost, pairsMost, toleranceMost, dig
 ghost use Rattle.trial.specs.Designs.{unitsOf};
 ghost use Rattle.words.specs.Words.{levelWord, shapeWordOf, offerWord, bitsOf, differenceWord, endWord};
 
-fn wide(x: u8) -> u32
+pub(crate) fn wide(x: u8) -> u32
     ensures { λ r. ⌜ (r ≡ x) × (r < 256) ⌝ }
 {
     x as u32

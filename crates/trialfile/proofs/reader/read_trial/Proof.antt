@@ -1,7 +1,7 @@
 -- `trialfile::reader::read_trial` meets its contract: the counts of an accepted file fit the arrays, and its parts make its trial.
 use native.Mathlib.Omega.{arith}
 use Rattle.trialfile.proofs.Layouts.{count-most, stands}
-use Rattle.trialfile.proofs.Taken.{shape-fits, trial-read}
+use Rattle.trialfile.proofs.Taken.{shape-fits, file-long, trial-read}
 use borrow.Author.Needs.{needs}
 use Rattle.trialfile.proofs.reader.read_trial.Statement.{statement}
 use Rattle.trialfile.proofs.reader.read_trial.Tie as tie
@@ -22,7 +22,8 @@ read-figures-requires c κs =
     let f = shape-fits _ (c .before .before .before .before .before .before .before .before .pre) _ _ (c .before .before .before .before .word-at2 .ensures) (c .before .before .before .shape-of .ensures) in
     let p = stands _ _ (c .before .before .of-shape .ensures) in
     let m = count-most (c .before .before .before .shape-of .result) (f .0) (f .1) in
-    (omega (arith, p .figures-at, p .end-at, m), omega (arith, p .figures-at, f .0))
+    let long = file-long _ (c .before .before .before .before .before .before .before .before .pre) _ _ (c .before .before .of-shape .result) (c .before .before .before .before .word-at2 .ensures) (c .before .before .before .shape-of .ensures) (c .before .before .of-shape .ensures) in
+    (omega (arith, p .figures-at, p .end-at, m), omega (arith, p .figures-at, f .0), omega (arith, p .figures-at, p .end-at, long))
 
 returns : tie.Need-returns
 returns c =
