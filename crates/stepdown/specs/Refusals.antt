@@ -15,13 +15,14 @@ use lib.Ieee.{Float}
 use Rattle.order.specs.Order.{finite}
 use Rattle.order.specs.Counting.{all}
 use Rattle.refusals.specs.Answers.{Checks, firstRefusal, r3, r4, r9, r10, r11, r13, r14}
+use Rattle.limits.specs.Limits.{tableRowsMost, columnsMost, stepsMost}
 use Rattle.refusals.specs.Limits.{badSizes, badLevel}
 use Rattle.refusals.specs.Buffers.{tooShort}
 use Rattle.columns.specs.Columns.{size, columnsOf}
 use Rattle.stepdown.specs.declared.Run.{Run}
 
 abbrev pub badShape : ℕ → ℕ → ℕ → Bool
-badShape rows columns k = badSizes 4096 32 rows columns k
+badShape rows columns k = badSizes tableRowsMost columnsMost rows columns k
 
 unfoldable pub badValue : List Float → Bool
 unfolding all finite
@@ -76,7 +77,7 @@ progressClauses r =
     -- a rejected offer that the table hasn't, by the run's own columns
     leb (2 ^ (r .columns)) (r .rejected)
     -- more than 32 steps
-    ∷ ltb 32 (r .steps)
+    ∷ ltb stepsMost (r .steps)
     -- rejections at step 0
     ∷ (eqb (r .steps) 0 && not (eqb (r .rejected) 0))
     -- or ended at step 0

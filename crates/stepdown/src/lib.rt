@@ -11,6 +11,7 @@ ghost use lib.ListN.{length};
 ghost use Rattle.stepdown.specs.Runs.{stateOf, resume};
 ghost use Rattle.stepdown.specs.Refusals.{badFigures};
 ghost use Rattle.stepdown.specs.Answers.{beginAnswer, stepAnswer, stepWork, fullAnswer, fullWork};
+ghost use Rattle.limits.specs.Limits.{tableRowsMost, columnsMost};
 ghost use Rattle.refusals.specs.Limits as limits;
 
 // A run (document 01), by value. The level is a/b; bit j of `rejected` says that column j is rejected.
@@ -40,7 +41,7 @@ pub enum StepAnswer {
 
 // e, where the level becomes a number of rows.
 fn allowance(rows: usize, a: usize, b: usize) -> usize
-    requires { ⌜ (limits.badSizes 4096 32 rows 1 1 ≡ false) × (limits.badLevel a b ≡ false) ⌝ }
+    requires { ⌜ (limits.badSizes tableRowsMost columnsMost rows 1 1 ≡ false) × (limits.badLevel a b ≡ false) ⌝ }
     ensures { λ e. ⌜ e ≡ limits.allowance rows a b ⌝ }
 {
     rows * a / b

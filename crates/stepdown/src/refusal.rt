@@ -1,5 +1,8 @@
 // What is turned away, each number where its condition is the first to hold in the stated order.
 use super::Run;
+use limits::COLUMNS_MOST;
+use limits::STEPS_MOST;
+use limits::TABLE_ROWS_MOST;
 ghost use mathlib.Core.Path.{_≡_};
 ghost use mathlib.Core.Bool.{false};
 ghost use Rattle.stepdown.specs.Refusals as conditions;
@@ -8,7 +11,7 @@ ghost use Rattle.stepdown.specs.Refusals as conditions;
 fn bad_shape(rows: usize, columns: usize, k: usize) -> bool
     ensures { λ r. ⌜ r ≡ conditions.badShape rows columns k ⌝ }
 {
-    refusals::bad_sizes(4096, 32, rows, columns, k)
+    refusals::bad_sizes(TABLE_ROWS_MOST, COLUMNS_MOST, rows, columns, k)
 }
 
 // A beginning: 4, 3, 10.
@@ -76,7 +79,7 @@ fn bad_progress(r: Run) -> bool
     if critical::full_mask(r.columns) < r.rejected {
         return true;
     }
-    if 32 < r.steps {
+    if STEPS_MOST < r.steps {
         return true;
     }
     if r.steps == 0 {

@@ -1,5 +1,5 @@
 -- The one layout of a trial file (document 01): level, shape, offers, figures, end. Places count words from 0. Definitions only.
---   levelAt, shapeAt       the places of the level and the shape
+--   levelAt, shapeAt, offersAt     the places of the level, the shape and the first offer
 --   wordsPerOffer          how many words an offer has
 --   layoutOf s             where the offers, the figures and the end of a file of this shape stand
 --   offerAt l i            the place of offer i (from 0)
@@ -16,12 +16,15 @@ levelAt = 0
 abbrev pub shapeAt : ℕ
 shapeAt = 1
 
+abbrev pub offersAt : ℕ
+offersAt = 2
+
 abbrev pub wordsPerOffer : ℕ
 wordsPerOffer = 1
 
 unfoldable pub layoutOf : Shape → Layout
 unfolding figureCount
-layoutOf s = record { offers = 2; figures = 2 + s .offers * wordsPerOffer; end = 2 + s .offers * wordsPerOffer + figureCount s }
+layoutOf s = record { offers = offersAt; figures = offersAt + s .offers * wordsPerOffer; end = offersAt + s .offers * wordsPerOffer + figureCount s }
 
 abbrev pub offerAt : Layout → ℕ → ℕ
 offerAt l i = l .offers + i * wordsPerOffer

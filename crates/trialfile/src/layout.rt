@@ -10,6 +10,8 @@ pub(crate) const LEVEL_AT: usize = 0;
 
 pub(crate) const SHAPE_AT: usize = 1;
 
+pub(crate) const OFFERS_AT: usize = 2;
+
 pub(crate) const WORDS_PER_OFFER: usize = 1;
 
 // Where the offers, the figures and the end stand, in words.
@@ -24,10 +26,10 @@ pub(crate) fn of_shape(shape: Shape) -> Layout
     ensures { λ r. ⌜ r ≡ layoutOf shape ⌝ }
 {
     let design = shape.design;
-    let figures = 2 + shape.offers * WORDS_PER_OFFER;
+    let figures = OFFERS_AT + shape.offers * WORDS_PER_OFFER;
     let end = figures + shape.offers * trial::units(design);
     Layout {
-        offers: 2,
+        offers: OFFERS_AT,
         figures,
         end,
     }
