@@ -10,7 +10,7 @@ tests fail.
 import subprocess
 import tempfile
 import unittest
-from ctypes import (CDLL, POINTER, Structure, byref, c_double, c_int32, c_size_t, c_uint8,
+from ctypes import (CDLL, POINTER, Structure, byref, c_double, c_int, c_int32, c_size_t, c_uint8,
                     c_uint32)
 from pathlib import Path
 
@@ -156,6 +156,15 @@ class Files(unittest.TestCase):
         expected = (0, MARK, b"") if text is None else (1, len(text), text)
         self.assertEqual((accepted, written.value, bytes(lent)),
                          (*expected[:2], expected[2].ljust(room + GUARD, bytes([MARK]))), case.name)
+
+    def test_reports_by_doubling(self):
+        """The other way to make a trial's table gives the same reports."""
+        doubling = c_int.in_dll(baseline, "table_by_doubling")
+        doubling.value = 1
+        try:
+            self.test_reports()
+        finally:
+            doubling.value = 0
 
     def test_reports(self):
         for case in every_case_of("file"):

@@ -28,7 +28,7 @@ enum {
     MOST_DIFFERENCES = MOST_OFFERS * MOST_PAIRS,
     MOST_TRIAL_ROWS = 1 << MOST_PAIRS,
     LONGEST_FILE = 652,
-    LONGEST_REPORT = 3000
+    LONGEST_REPORT = 2633
 };
 
 /* A table, the figures of its run, and a work buffer. */
@@ -72,6 +72,9 @@ int good_counts(const struct trial *trial);
 int good_offer(const struct trial *trial, size_t offer);
 
 int check_trial(const struct trial *trial);
+
+/* Whether a trial's table is made by doubling, as the library makes it, or entry by entry. */
+extern int table_by_doubling;
 
 /* The full run of an accepted trial, with buffers of its own. */
 void run_trial(const struct trial *trial, struct full_run *run);

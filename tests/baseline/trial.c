@@ -41,15 +41,30 @@ int check_trial(const struct trial *t)
     return 1;
 }
 
+int table_by_doubling;
+
+/* The sum of an offer's differences in row g, whose bits say which pairs are exchanged. */
+static double entry(const int32_t *differences, size_t pairs, size_t g)
+{
+    int64_t sum = 0;
+    for (size_t j = 0; j < pairs; j++)
+        sum += g >> j & 1 ? -(int64_t)differences[j] : differences[j];
+    return (double)sum;
+}
+
+static void fill_by_entries(const struct trial *t, double *table)
+{
+    for (size_t g = 0; g < (size_t)1 << t->pairs; g++)
+        for (size_t i = 0; i < t->offers; i++)
+            *table++ = entry(t->differences + i * t->pairs, t->pairs, g);
+}
+
 /* Row 0 has the plain sums; row 2^j + h is row h with twice the difference of pair j taken off. */
-static void fill_table(const struct trial *t, double *table)
+static void fill_by_doubling(const struct trial *t, double *table)
 {
     size_t offers = t->offers, pairs = t->pairs;
-    for (size_t i = 0; i < offers; i++) {
-        table[i] = 0;
-        for (size_t j = 0; j < pairs; j++)
-            table[i] += t->differences[i * pairs + j];
-    }
+    for (size_t i = 0; i < offers; i++)
+        table[i] = entry(t->differences + i * pairs, pairs, 0);
     for (size_t j = 0, rows = 1; j < pairs; j++, rows *= 2) {
         double twice[MOST_OFFERS];
         for (size_t i = 0; i < offers; i++)
@@ -63,7 +78,10 @@ static void fill_table(const struct trial *t, double *table)
 void run_trial(const struct trial *t, struct full_run *run)
 {
     double values[MOST_TRIAL_ROWS * MOST_OFFERS], work[MOST_TRIAL_ROWS];
-    fill_table(t, values);
+    if (table_by_doubling)
+        fill_by_doubling(t, values);
+    else
+        fill_by_entries(t, values);
     size_t rows = (size_t)1 << t->pairs;
     struct table table = {values, rows * t->offers, rows, t->offers, t->k, t->a, t->b, 0, work, rows};
     run_table(&table, run);

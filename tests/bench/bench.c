@@ -21,6 +21,7 @@ static const struct task tasks[] = {
     {NULL, 0, "4096 x 32, ladder", RUN, {LADDER, 4096, 32, 4, 0}},
     {"A largest file", 0, "verdicts for C", VERDICTS, {.k = 4}},
     {NULL, 0, "report", REPORT, {.k = 1}},
+    {NULL, 0, "report, C by doubling too", DOUBLED, {.k = 1}},
     {NULL, 0, "report", REPORT, {.k = 4}},
     {NULL, 0, "report, opposite offers", REPORT, {VALLEY, .k = 4}},
     {NULL, 0, "reading", READING, {.k = 4}},

@@ -9,6 +9,7 @@ enum kind {
     RUN,      /* full run of a table */
     VERDICTS, /* the call for C on a largest file */
     REPORT,   /* its report */
+    DOUBLED,  /* its report, against a baseline that makes its table by doubling too */
     READING,
     WRITING,
     KINDS
