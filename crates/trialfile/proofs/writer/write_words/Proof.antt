@@ -8,82 +8,103 @@ use Rattle.trialfile.proofs.writer.write_words.Tie as tie
 
 level-word-requires : tie.Need-level-word-requires
 level-word-requires c κs =
-    let p = c .before .before .before .before .before .before .before .before .pre in
-    let able = writable (c .before .before .before .before .before .before .before .before .args .t) (c .before .before .before .before .before .before .before .before .args .l) (p .0) (p .1) (p .2) in
+    let s = c .before .before .before .before .before .before .before .before in
+    let p = s .pre in
+    let able = writable (s .args .t) (s .args .l) (p .0) (p .1) (p .2) in
     let at = able .placed in
     (omega (arith, able .a-most, able .b-most), omega (arith, able .a-most, able .b-most))
 
 shape-word-requires : tie.Need-shape-word-requires
 shape-word-requires c κs =
-    let p = c .before .before .before .before .before .before .before .before .before .before .before .before .before .pre in
-    let able = writable (c .before .before .before .before .before .before .before .before .before .before .before .before .before .args .t) (c .before .before .before .before .before .before .before .before .before .before .before .before .before .args .l) (p .0) (p .1) (p .2) in
+    let s = c .before .before .before .before .before .before .before .before .before .before .before .before .before in
+    let p = s .pre in
+    let able = writable (s .args .t) (s .args .l) (p .0) (p .1) (p .2) in
     let at = able .placed in
     (able .k-most, able .offers-most, able .units-most)
 
 put-word-requires-2 : tie.Need-put-word-requires-2
 put-word-requires-2 c κs =
-    let p = c .before .before .before .before .before .before .before .before .before .before .before .before .before .before .pre in
-    let able = writable (c .before .before .before .before .before .before .before .before .before .before .before .before .before .before .args .t) (c .before .before .before .before .before .before .before .before .before .before .before .before .before .before .args .l) (p .0) (p .1) (p .2) in
+    let s = c .before .before .before .before .before .before .before .before .before .before .before .before .before .before in
+    let p = s .pre in
+    let able = writable (s .args .t) (s .args .l) (p .0) (p .1) (p .2) in
     let at = able .placed in
     (omega arith, omega (arith, able .all-words, p .3, at .end-at, c .before .before .before .before .put-word .kept .0))
 
 write-offers-requires : tie.Need-write-offers-requires
 write-offers-requires c κs =
-    let p = c .before .before .before .before .before .before .before .before .before .before .before .before .before .before .before .before .before .before .before .before .pre in
-    let able = writable (c .before .before .before .before .before .before .before .before .before .before .before .before .before .before .before .before .before .before .before .before .args .t) (c .before .before .before .before .before .before .before .before .before .before .before .before .before .before .before .before .before .before .before .before .args .l) (p .0) (p .1) (p .2) in
+    let w = c .before .before .before .before .before in
+    let v = w .before .before .before .before .before in
+    let s = v .before .before .before .before .before .before .before .before .before .before in
+    let p = s .pre in
+    let able = writable (s .args .t) (s .args .l) (p .0) (p .1) (p .2) in
     let at = able .placed in (
       able .offers-most,
       omega (arith, p .0 .codes-length, able .offers-most),
       omega (arith, p .0 .digits-length, able .offers-most),
       omega (arith, at .offers-at),
-      omega (arith, able .all-words, p .3, at .offers-at, at .end-at, c .before .before .before .before .before .put-word2 .kept .0, c .before .before .before .before .before .before .before .before .before .before .put-word .kept .0),
+      omega (arith, able .all-words, p .3, at .offers-at, at .end-at, w .put-word2 .kept .0, v .put-word .kept .0),
       able .labels-ok,
     )
 
 sub-write-figures : tie.Need-sub-write-figures
 sub-write-figures c =
-    let p = c .before .before .before .before .before .before .before .before .before .before .before .before .before .before .before .before .before .before .before .before .before .before .before .before .before .pre in
-    let able = writable (c .before .before .before .before .before .before .before .before .before .before .before .before .before .before .before .before .before .before .before .before .before .before .before .before .before .args .t) (c .before .before .before .before .before .before .before .before .before .before .before .before .before .before .before .before .before .before .before .before .before .before .before .before .before .args .l) (p .0) (p .1) (p .2) in
+    let s = c .before .before .before .before .before .before .before .before .before .before .before .before .before .before .before .before .before .before .before .before .before .before .before .before .before in
+    let p = s .pre in
+    let able = writable (s .args .t) (s .args .l) (p .0) (p .1) (p .2) in
     let at = able .placed in
     omega (arith, at .figures-at, at .end-at)
 
 write-figures-requires : tie.Need-write-figures-requires
 write-figures-requires c κs =
-    let p = c .before .before .before .before .before .before .before .before .before .before .before .before .before .before .before .before .before .before .before .before .before .before .before .before .before .before .pre in
-    let able = writable (c .before .before .before .before .before .before .before .before .before .before .before .before .before .before .before .before .before .before .before .before .before .before .before .before .before .before .args .t) (c .before .before .before .before .before .before .before .before .before .before .before .before .before .before .before .before .before .before .before .before .before .before .before .before .before .before .args .l) (p .0) (p .1) (p .2) in
+    let o = c .before .before .before .before .before in
+    let w = o .before .before .before .before .before .before in
+    let v = w .before .before .before .before .before in
+    let s = v .before .before .before .before .before .before .before .before .before .before in
+    let p = s .pre in
+    let able = writable (s .args .t) (s .args .l) (p .0) (p .1) (p .2) in
     let at = able .placed in
     let n = able .figures-most in (
       omega (arith, at .figures-at, at .end-at),
       omega (arith, at .figures-at, at .end-at, p .0 .figures-length),
       omega (arith, at .figures-at, able .offers-most),
-      omega (arith, able .all-words, p .3, at .figures-at, at .end-at, c .before .before .before .before .before .write-offers .kept .1 .1 .1 .1 .0, c .before .before .before .before .before .before .before .before .before .before .before .put-word2 .kept .0, c .before .before .before .before .before .before .before .before .before .before .before .before .before .before .before .before .put-word .kept .0),
+      omega (arith, able .all-words, p .3, at .figures-at, at .end-at, o .write-offers .kept .1 .1 .1 .1 .0, w .put-word2 .kept .0, v .put-word .kept .0),
       λ i k. able .figures-ok i (omega (arith, at .figures-at, at .end-at)),
     )
 
 end-word-requires : tie.Need-end-word-requires
 end-word-requires c κs =
-    let p = c .before .before .before .before .before .before .before .before .before .before .before .before .before .before .before .before .before .before .before .before .before .before .before .before .before .before .before .before .before .before .pre in
-    let able = writable (c .before .before .before .before .before .before .before .before .before .before .before .before .before .before .before .before .before .before .before .before .before .before .before .before .before .before .before .before .before .before .args .t) (c .before .before .before .before .before .before .before .before .before .before .before .before .before .before .before .before .before .before .before .before .before .before .before .before .before .before .before .before .before .before .args .l) (p .0) (p .1) (p .2) in
+    let s = c .before .before .before .before .before .before .before .before .before .before .before .before .before .before .before .before .before .before .before .before .before .before .before .before .before .before .before .before .before .before in
+    let p = s .pre in
+    let able = writable (s .args .t) (s .args .l) (p .0) (p .1) (p .2) in
     let at = able .placed in
     omega (arith, able .all-words, fileLength-most _ (p .0) (p .1))
 
 put-word-requires-3 : tie.Need-put-word-requires-3
 put-word-requires-3 c κs =
-    let p = c .before .before .before .before .before .before .before .before .before .before .before .before .before .before .before .before .before .before .before .before .before .before .before .before .before .before .before .before .before .before .before .pre in
-    let able = writable (c .before .before .before .before .before .before .before .before .before .before .before .before .before .before .before .before .before .before .before .before .before .before .before .before .before .before .before .before .before .before .before .args .t) (c .before .before .before .before .before .before .before .before .before .before .before .before .before .before .before .before .before .before .before .before .before .before .before .before .before .before .before .before .before .before .before .args .l) (p .0) (p .1) (p .2) in
-    let at = able .placed in
-    (omega (arith, able .all-words, fileLength-most _ (p .0) (p .1)), omega (arith, able .all-words, p .3, c .before .before .before .before .write-figures .kept .1 .1 .1 .0, c .before .before .before .before .before .before .before .before .before .before .write-offers .kept .1 .1 .1 .1 .0, c .before .before .before .before .before .before .before .before .before .before .before .before .before .before .before .before .put-word2 .kept .0, c .before .before .before .before .before .before .before .before .before .before .before .before .before .before .before .before .before .before .before .before .before .put-word .kept .0))
+    let f = c .before .before .before .before in
+    let o = f .before .before .before .before .before .before in
+    let w = o .before .before .before .before .before .before in
+    let v = w .before .before .before .before .before in
+    let s = v .before .before .before .before .before .before .before .before .before .before in
+    let p = s .pre in
+    let able = writable (s .args .t) (s .args .l) (p .0) (p .1) (p .2) in
+    let at = able .placed in (
+      omega (arith, able .all-words, fileLength-most _ (p .0) (p .1)),
+      omega (arith, able .all-words, p .3, f .write-figures .kept .1 .1 .1 .0, o .write-offers .kept .1 .1 .1 .1 .0, w .put-word2 .kept .0, v .put-word .kept .0),
+    )
 
 returns : tie.Need-returns
 returns c =
-    let p = c .before .before .before .before .before .before .before .before .before .before .before .before .before .before .before .before .before .before .before .before .before .before .before .before .before .before .before .before .before .before .before .before .before .before .pre in
-    let able = writable (c .before .before .before .before .before .before .before .before .before .before .before .before .before .before .before .before .before .before .before .before .before .before .before .before .before .before .before .before .before .before .before .before .before .before .args .t) (c .before .before .before .before .before .before .before .before .before .before .before .before .before .before .before .before .before .before .before .before .before .before .before .before .before .before .before .before .before .before .before .before .before .before .args .l) (p .0) (p .1) (p .2) in
-    let at = able .placed in
     let f = c .before .before .before .before .before .before .before in
-    let o = c .before .before .before .before .before .before .before .before .before .before .before .before .before in
-    let s = c .before .before .before .before .before .before .before .before .before .before .before .before .before .before .before .before .before .before .before in
-    let v = c .before .before .before .before .before .before .before .before .before .before .before .before .before .before .before .before .before .before .before .before .before .before .before .before in
-    all-stored (c .before .before .before .before .before .before .before .before .before .before .before .before .before .before .before .before .before .before .before .before .before .before .before .before .before .before .before .before .before .before .before .before .before .before .args .t) (c .before .before .before .before .before .before .before .before .before .before .before .before .before .before .before .before .before .before .before .before .before .before .before .before .before .before .before .before .before .before .before .before .before .before .args .l) able _ _ _ _ _ _ _ _ _ _ (omega (arith, fileLength-is _ (p .0) (p .1), p .3)) (omega (arith, at .figures-at, at .end-at)) (v .before .level-word .ensures) (v .put-word .ensures) (s .before .shape-word .ensures) (s .put-word2 .ensures) (o .write-offers .ensures) (f .write-figures .ensures) (c .before .before .before .end-word .ensures) (c .before .before .put-word3 .ensures)
+    let o = f .before .before .before .before .before .before in
+    let w = o .before .before .before .before .before .before in
+    let v = w .before .before .before .before .before in
+    let s = v .before .before .before .before .before .before .before .before .before .before in
+    let p = s .pre in
+    let able = writable (s .args .t) (s .args .l) (p .0) (p .1) (p .2) in
+    let at = able .placed in
+    all-stored (s .args .t) (s .args .l) able _ _ _ _ _ _ _ _ _ _ (omega (arith, fileLength-is _ (p .0) (p .1), p .3)) (omega (arith, at .figures-at, at .end-at)) (v .before .level-word .ensures) (v .put-word .ensures)
+    (w .before .shape-word .ensures) (w .put-word2 .ensures) (o .write-offers .ensures) (f .write-figures .ensures) (c .before .before .before .end-word .ensures) (c .before .before .put-word3 .ensures)
 
 pub write-words-spec : {M : Type 1} → statement M
 write-words-spec =
