@@ -6,6 +6,7 @@
 --   K ∖ L           columns of K that L has not
 --   within K row    the values of a row at the columns of K
 --   over v row      the columns whose value is larger than v
+--   reached v row   the columns whose value is at least v
 --   choose j R      the sets of j columns of R: one column and j - 1 later ones, in the order of the walk
 --   inSet s j       bit j of the mask s is 1
 --   columnsOf n s   the set of those of n columns whose bit is 1 in the mask s
@@ -17,7 +18,7 @@ use mathlib.Core.List.{List, [], _∷_, _++_, map, zipWith}
 use lib.ListN.{replicate}
 use lib.Dec.{eqb}
 use lib.Ieee.{Float}
-use Rattle.order.specs.Order.{smaller}
+use Rattle.order.specs.Order.{smaller, atMost}
 use Rattle.order.specs.Counting.{bit, count}
 
 infixl 70 _∩_
@@ -52,6 +53,9 @@ within (b ∷ K) (x ∷ row) = cond b (x ∷ within K row) (within K row)
 
 unfoldable pub over : Float → List Float → Columns
 over v row = map (λ x. smaller v x) row
+
+unfoldable pub reached : Float → List Float → Columns
+reached v row = map (λ x. atMost v x) row
 
 unfoldable pub choose : ℕ → Columns → List Columns
 choose zero R = map (λ _. false) R ∷ []

@@ -3,6 +3,7 @@
 --   criticalValue k e X K   c(K): of the M rows' k-max values over K, the (M - e)-th smallest
 --   putBack k e X A R       the largest c(A with I) over all subsets I of R with exactly k - 1 columns
 --   atLeast X v j           how many rows have a value of at least v in column j (an offer's count)
+--   reaching k X K v        how many rows have a k-max over K of at least v
 use Prim.Native.Nat.{ℕ, _-_}
 use mathlib.Core.List.{List, map}
 use lib.ListN.{length, getD}
@@ -27,3 +28,7 @@ putBack k e X A R = kthLargest 1 (map (λ I. criticalValue k e X (A ∪ I)) (cho
 unfoldable pub atLeast : List (List Float) → Float → ℕ → ℕ
 unfolding count
 atLeast X v j = count (λ row. atMost v (getD row j nan)) X
+
+unfoldable pub reaching : ℕ → List (List Float) → Columns → Float → ℕ
+unfolding count kMax
+reaching k X K v = count (λ row. atMost v (kMax k K row)) X

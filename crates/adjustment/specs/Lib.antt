@@ -1,0 +1,3 @@
+pub mod Adjusted
+pub mod Passes
+pub mod Answers
