@@ -1,0 +1,4 @@
+pub mod Tops
+pub mod Scan
+pub mod PutBackCounts
+pub mod Stored

@@ -1,0 +1,72 @@
+// The pass down the observed values, largest first, the lower position first among equals: a column's figure is the running maximum of the counts needed.
+use super::counting;
+use super::top;
+use limits::TABLE_ROWS_MOST;
+ghost use mathlib.Core.Path.{_≡_};
+ghost use Prim.Native.Nat.{_≤_};
+ghost use lib.ListN.{replicate};
+ghost use Rattle.order.specs.Lists.{rowsOf, padded};
+ghost use Rattle.columns.specs.Columns.{size, columnsOf};
+ghost use Rattle.adjustment.specs.Adjusted.{adjustedFigures};
+ghost use Rattle.adjustment.specs.Passes.{kMaxPass};
+ghost use Rattle.adjustment.specs.Internal.{Passable};
+
+// M for each column, which is what a column has that is never rejected.
+fn unrejected(rows: usize, columns: usize) -> [usize; 32]
+    requires { ⌜ columns ≤ 32 ⌝ }
+    ensures { λ r. ⌜ r ≡ padded 32 0 (replicate columns rows) ⌝ }
+{
+    let mut figures = [0usize; 32];
+    let mut j: usize = 0;
+    while j < columns {
+        figures[j] = rows;
+        j += 1;
+    }
+    figures
+}
+
+// The pass over the columns of `live`, of which there are k or more.
+fn down(
+    table: &[f64],
+    rows: usize,
+    columns: usize,
+    k: usize,
+    observed: usize,
+    live: u32,
+) -> [usize; 32]
+    requires { ⌜ Passable (now table) rows columns k observed live × (k ≤ size (columnsOf columns live)) ⌝ }
+    ensures { λ r. ⌜ r ≡ padded 32 0 (kMaxPass k (rowsOf rows columns (now (table .entry))) (columnsOf columns live) observed) ⌝ }
+{
+    let mut marks = [0u32; TABLE_ROWS_MOST];
+    let mut figures = unrejected(rows, columns);
+    let from = observed * columns;
+    let to = from + columns;
+    let mut left = live;
+    let mut figure: usize = 0;
+    while left != 0 {
+        let i = top::top_column(&table[from..to], left);
+        let n = masks::mark(table, &mut marks, rows, columns, k, table[from + i]);
+        figure = counting::needed(&marks[..n], columns, k, live, live - left, figure);
+        figures[i] = figure;
+        left -= masks::bit(i);
+    }
+    figures
+}
+
+// The figures of all columns, where those of `live` take part.
+pub(crate) fn all_figures(
+    table: &[f64],
+    rows: usize,
+    columns: usize,
+    k: usize,
+    observed: usize,
+    live: u32,
+) -> [usize; 32]
+    requires { ⌜ Passable (now table) rows columns k observed live ⌝ }
+    ensures { λ r. ⌜ r ≡ padded 32 0 (adjustedFigures (rowsOf rows columns (now (table .entry))) rows columns k observed live) ⌝ }
+{
+    if masks::size_of(columns, live) < k {
+        return unrejected(rows, columns);
+    }
+    down(table, rows, columns, k, observed, live)
+}
