@@ -6,14 +6,14 @@
 use Prim.Native.Nat.{ℕ, zero, suc, _+_, _≤_, _<_}
 use native.Mathlib.Omega.{arith}
 use mathlib.Core.Path.{_≡_, refl, sym, ap, _∙_}
-use mathlib.Core.Bool.{Bool, true, false, not, _&&_, _||_, true≢false}
-use mathlib.Core.List.{List, [], _∷_, zipWith}
+use mathlib.Core.Bool.{Bool, true, false, true≢false}
+use mathlib.Core.List.{List, [], _∷_}
 use lib.ListN.{length}
 use lib.Ieee.{Float}
-use Rattle.order.specs.Counting.{bit, count}
 use Rattle.order.proofs.Rows.{Sound}
-use Rattle.columns.specs.Columns.{Columns, size, _∪_, _∩_, _∖_, over, columnsOf}
+use Rattle.columns.specs.Columns.{Columns, size, _∪_, _∖_, over, columnsOf}
 use Rattle.columns.proofs.Sets.{size-length}
+use Rattle.columns.proofs.Remaining.{left-after}
 use Rattle.columns.proofs.Masks.{columnsOf-length}
 use Rattle.runs.specs.Stepdown.{liveSet, rejectedSet, firstState, criticalOf, newlyRejected, next, stepsFrom, stepsOf, leftOver}
 use Rattle.runs.specs.declared.State.{State}
