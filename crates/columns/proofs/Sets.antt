@@ -5,7 +5,7 @@
 --   ⊆-refl, ⊆-trans   a set holds itself, and what the sets that it holds hold
 --   some-column       a set that has a column is not empty
 --   empty-..          the set of no column, beside a set: it lies in every set, and has no column
-use Prim.Native.Nat.{ℕ, zero, suc, _+_, _-_, _≤_, _<_}
+use Prim.Native.Nat.{ℕ, zero, suc, _+_, _≤_, _<_}
 use native.Mathlib.Omega.{arith}
 use mathlib.Core.Path.{_≡_, refl, sym, ap, _∙_}
 use mathlib.Core.Bool.{Bool, true, false, not, _&&_, _||_}

@@ -4,4 +4,6 @@ pub mod Start
 pub mod Termination
 pub mod Descent
 pub mod RejectedSets
+pub mod RejectedVerdicts
+pub mod Loosening
 pub mod Examples

@@ -5,13 +5,12 @@
 --   step-in, step-out     what a step rejects lies above its critical value, and what it leaves does not
 --   grown-by              what holds of R's columns and of those that the step rejects holds of both
 --   Before, Ended         what holds before each step, and at the end: no column that is left lies above the critical value of a further step
---   keeps, ends           a fact that each step keeps holds at the end; as many steps as there are columns left end a run
---   at-keeps, at-ends     both for the method at e
+--   at-keeps, at-ends     a fact that each step keeps holds of what is rejected in the end; and the run has ended there
 use Prim.Native.Nat.{ℕ, zero, suc, _+_, _≤_, _<_}
 use native.Mathlib.Omega.{arith}
-use mathlib.Core.Path.{_≡_, refl, sym, ap, ap₂, _∙_, subst}
+use mathlib.Core.Path.{_≡_, refl, sym, ap, _∙_, subst}
 use mathlib.Core.Logic.{inl, inr}
-use mathlib.Core.Bool.{Bool, true, false, not, _&&_, _||_}
+use mathlib.Core.Bool.{Bool, true, false, _&&_, _||_}
 use mathlib.Core.List.{List, [], map}
 use lib.ListN.{length, getD, length-map}
 use lib.Dec.{ltb, T, ltb→lt, lt→ltb}
@@ -170,6 +169,7 @@ module _ (k e : ℕ) (X : List (List Float)) (live : Columns) (row : List Float)
               later zero z i = absurd (omega (arith, z refl, ap size same))
               later (suc n) z i = subst (λ (m : ℕ). key (getD row j nan) ≤ key (stepCritical k e X live R m)) (sym i) (low j t u)
 
+    -- a fact that each step keeps holds at the end
     keeps : (P : Columns → Type 0) → ((R : Columns) (s : ℕ) → Before R s → P R → P (R ∪ stepRejects k e X live row R s))
         → (n : ℕ) (b : Bool) (R : Columns) (s : ℕ) → (b ≡ false → Before R s) → P R → P (rejectedFrom n b k e X live row R s)
     unfolding rejectedFrom
@@ -177,6 +177,7 @@ module _ (k e : ℕ) (X : List (List Float)) (live : Columns) (row : List Float)
     keeps P f (suc n) true R s h p = p
     keeps P f (suc n) false R s h p = keeps P f n (endsAfter k live (stepRejects k e X live row R s) (R ∪ stepRejects k e X live row R s)) (R ∪ stepRejects k e X live row R s) (suc s) (after-step R s (h refl)) (f R s (h refl) p)
 
+    -- as many steps as there are columns left end the run
     ends : 0 < k → (n : ℕ) (b : Bool) (R : Columns) (s : ℕ) → (b ≡ true → Ended R) → (b ≡ false → Before R s) → (b ≡ false → size (live ∖ R) ≤ n) → Ended (rejectedFrom n b k e X live row R s)
     unfolding rejectedFrom
     ends pos zero true R s d h l = d refl
