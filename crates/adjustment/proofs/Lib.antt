@@ -1,0 +1,5 @@
+pub mod Figures
+pub mod Needed
+pub mod TopColumn
+pub mod PassFigures
+pub mod Passing
