@@ -1,3 +1,4 @@
+pub mod Examples
 pub mod Figures
 pub mod Needed
 pub mod TopColumn

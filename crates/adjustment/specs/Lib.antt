@@ -1,3 +1,4 @@
 pub mod Adjusted
 pub mod Passes
 pub mod Answers
+pub mod Examples
