@@ -4,3 +4,5 @@ pub mod Needed
 pub mod TopColumn
 pub mod PassFigures
 pub mod Passing
+pub mod Accepted
+pub mod Tables
