@@ -1,4 +1,11 @@
-pub mod Tops
+pub mod Examples
+pub mod Figures
+pub mod Needed
+pub mod TopColumn
+pub mod PassFigures
+pub mod Passing
+pub mod Accepted
+pub mod Tables
 pub mod Scan
 pub mod PutBackCounts
 pub mod Stored

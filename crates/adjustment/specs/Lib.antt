@@ -1,4 +1,5 @@
 pub mod Adjusted
 pub mod Passes
 pub mod Answers
+pub mod Examples
 pub mod Internal

@@ -1,3 +1,4 @@
 pub mod Sets
 pub mod Masks
 pub mod PutBack
+pub mod Remaining

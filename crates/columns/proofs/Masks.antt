@@ -6,7 +6,7 @@ use native.Mathlib.Omega.{arith}
 use native.Mathlib.Nat.{div-one, div-div-eq-div-mul, pow-suc}
 use mathlib.Core.Path.{_≡_, refl, sym, ap, ap₂, _∙_}
 use mathlib.Core.Bool.{Bool, true, false, not, _&&_, _||_}
-use mathlib.Core.List.{[], _∷_, zipWith}
+use mathlib.Core.List.{[], _∷_, map, zipWith}
 use lib.ListN.{length}
 use lib.Dec.{T, eqb}
 use lib.Pow.{pow-pos}
@@ -116,6 +116,11 @@ mask-none K = go (maskOf K) (size K) (same K)
     go : (m n : ℕ) → (m ≡ 0 → n ≡ 0) × (n ≡ 0 → m ≡ 0) → eqb m 0 ≡ eqb n 0
     go zero n f = sym (eq-eqb n 0 (f .0 refl))
     go (suc m) n f = ne-eqb (suc m) 0 (λ e. omega arith) ∙ sym (ne-eqb n 0 (λ e. omega (arith, f .1 e)))
+
+pub columnsOf-none : (K : Columns) → columnsOf (length K) 0 ≡ map (λ _. false) K
+unfolding columnsOf
+columnsOf-none [] = refl
+columnsOf-none (b ∷ K) = ap (λ (L : Columns). false ∷ L) (columnsOf-none K)
 
 pub size-none : (n : ℕ) → size (columnsOf n 0) ≡ 0
 unfolding columnsOf size count

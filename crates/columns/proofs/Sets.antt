@@ -2,17 +2,20 @@
 --   has K j        column j is in K
 --   K ⊆ L          two sets over the same columns, each column of K in L; ⊆-by and ⊆-at go by columns
 --   has-over          which columns are over a value
-use Prim.Native.Nat.{ℕ, zero, suc, _+_, _-_, _≤_, _<_}
+--   ⊆-refl, ⊆-trans   a set holds itself, and what the sets that it holds hold
+--   some-column       a set that has a column is not empty
+--   empty-..          the set of no column, beside a set: it lies in every set, and has no column
+use Prim.Native.Nat.{ℕ, zero, suc, _+_, _≤_, _<_}
 use native.Mathlib.Omega.{arith}
-use mathlib.Core.Path.{_≡_, refl, sym, ap}
+use mathlib.Core.Path.{_≡_, refl, sym, ap, _∙_}
 use mathlib.Core.Bool.{Bool, true, false, not, _&&_, _||_}
 use mathlib.Core.List.{List, [], _∷_, map, zipWith}
-use lib.ListN.{length, getD, replicate}
+use lib.ListN.{length, getD, replicate, length-map}
 use lib.Dec.{T}
 use Rattle.order.specs.Counting.{bit, count, all}
 use Rattle.order.specs.Order.{smaller}
 use Rattle.order.proofs.Booleans.{and-left, and-right, and-both}
-use Rattle.order.proofs.Counts.{bit-le, bit-one}
+use Rattle.order.proofs.Counts.{bit-le, bit-one, bit-yes}
 use Rattle.columns.specs.Columns.{over, Columns, size, _∪_, _∩_, _∖_, within}
 use lib.Ieee.{Float, nan}
 
@@ -101,6 +104,13 @@ pub ⊆-length : {K L : Columns} → K ⊆ L → length K ≡ length L
 ⊆-length none = refl
 ⊆-length (more f s) = ap suc (⊆-length s)
 
+pub ⊆-refl : (K : Columns) → K ⊆ K
+⊆-refl K = ⊆-by K K refl (λ j t. t)
+
+pub ⊆-trans : {K L N : Columns} → K ⊆ L → L ⊆ N → K ⊆ N
+⊆-trans none none = none
+⊆-trans (more f s) (more g t) = more (λ z. g (f z)) (⊆-trans s t)
+
 pub size-mono : {K L : Columns} → K ⊆ L → size K ≤ size L
 unfolding size count
 size-mono none = omega arith
@@ -122,6 +132,12 @@ pub size-all : (n : ℕ) → size (replicate n true) ≡ n
 unfolding size count
 size-all zero = refl
 size-all (suc n) = omega (arith, size-all n)
+
+pub some-column : (K : Columns) (j : ℕ) → T (has K j) → 0 < size K
+unfolding size count
+some-column [] j t = absurd t
+some-column (b ∷ K) zero t = omega (arith, bit-yes b t)
+some-column (b ∷ K) (suc j) t = omega (arith, some-column K j t)
 
 -- ---- the values of a row at a set
 
@@ -157,3 +173,11 @@ pub empty-size : (R : Columns) → size (map (λ _. false) R) ≡ 0
 unfolding size count
 empty-size [] = refl
 empty-size (b ∷ R) = omega (arith, empty-size R)
+
+pub empty-has : (R : Columns) (j : ℕ) → T (has (map (λ _. false) R) j) → ⊥
+empty-has [] j t = t
+empty-has (b ∷ R) zero t = t
+empty-has (b ∷ R) (suc j) t = empty-has R j t
+
+pub empty-under : (R L : Columns) → length R ≡ length L → map (λ _. false) R ⊆ L
+empty-under R L h = ⊆-by (map (λ _. false) R) L (length-map R _ ∙ h) (λ j t. absurd (empty-has R j t))

@@ -3,4 +3,7 @@ pub mod Covers
 pub mod Start
 pub mod Termination
 pub mod Descent
+pub mod RejectedSets
+pub mod RejectedVerdicts
+pub mod Loosening
 pub mod Examples

@@ -68,7 +68,7 @@ module _ (k : ℕ) (live new R : Columns) where
   abbrev pub Stops : Type 0
   Stops = (size new ≡ 0) ⊎ ((size R < k) ⊎ (size (live ∖ R) ≡ 0))
 
-  ends-why : endsAfter k live new R ≡ true → Stops
+  pub ends-why : endsAfter k live new R ≡ true → Stops
   unfolding endsAfter
   ends-why h = go (eqb (size new) 0) (ltb (size R) k) (eqb (size (live ∖ R)) 0) refl refl refl h
     where

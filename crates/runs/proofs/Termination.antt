@@ -6,36 +6,20 @@
 use Prim.Native.Nat.{ℕ, zero, suc, _+_, _≤_, _<_}
 use native.Mathlib.Omega.{arith}
 use mathlib.Core.Path.{_≡_, refl, sym, ap, _∙_}
-use mathlib.Core.Bool.{Bool, true, false, not, _&&_, _||_, true≢false}
-use mathlib.Core.List.{List, [], _∷_, zipWith}
+use mathlib.Core.Bool.{Bool, true, false, true≢false}
+use mathlib.Core.List.{List, [], _∷_}
 use lib.ListN.{length}
 use lib.Ieee.{Float}
-use Rattle.order.specs.Counting.{bit, count}
 use Rattle.order.proofs.Rows.{Sound}
-use Rattle.columns.specs.Columns.{Columns, size, _∪_, _∩_, _∖_, over, columnsOf}
+use Rattle.columns.specs.Columns.{Columns, size, _∪_, _∖_, over, columnsOf}
 use Rattle.columns.proofs.Sets.{size-length}
+use Rattle.columns.proofs.Remaining.{left-after}
 use Rattle.columns.proofs.Masks.{columnsOf-length}
 use Rattle.runs.specs.Stepdown.{liveSet, rejectedSet, firstState, criticalOf, newlyRejected, next, stepsFrom, stepsOf, leftOver}
 use Rattle.runs.specs.declared.State.{State}
 use Rattle.runs.specs.declared.Step.{Step}
 use Rattle.runs.proofs.Steps.{seenRow, over-length, rejected-length, seen-length, newly-is, next-rejected, going-on}
 use Rattle.runs.proofs.Start.{first-left, first-open}
-
--- ---- what a step leaves
-
-leave-bit : (a r o : Bool) → bit (a && not (r || (a && not r && o))) + bit (a && not r && o) ≡ bit (a && not r)
-leave-bit true true o = refl
-leave-bit true false true = refl
-leave-bit true false false = refl
-leave-bit false true o = refl
-leave-bit false false o = refl
-
-leave : (live R O : Columns) → length R ≡ length O → size (live ∖ (R ∪ ((live ∖ R) ∩ O))) + size ((live ∖ R) ∩ O) ≡ size (live ∖ R)
-unfolding _∖_ _∪_ _∩_ zipWith size count
-leave [] R O h = refl
-leave (a ∷ live) [] O h = refl
-leave (a ∷ live) (r ∷ R) [] h = absurd (omega arith)
-leave (a ∷ live) (r ∷ R) (o ∷ O) h = omega (arith, leave-bit a r o, leave live R O (omega arith))
 
 -- ---- the last state
 
@@ -49,7 +33,7 @@ module _ (X : List (List Float)) (r : State) (sound : Sound (r .columns) X) (see
   left-falls =
       ap (λ (R : Columns). size (liveSet r ∖ R) + size (newlyRejected X r)) (next-rejected X r sound seen)
       ∙ ap (λ (new : Columns). size (liveSet r ∖ (rejectedSet r ∪ new)) + size new) (newly-is X r)
-      ∙ leave (liveSet r) (rejectedSet r) (over (criticalOf X r) (seenRow X r)) (rejected-length r ∙ sym (over-length (criticalOf X r) (seenRow X r) ∙ seen-length X r sound seen))
+      ∙ left-after (liveSet r) (rejectedSet r) (over (criticalOf X r) (seenRow X r)) (rejected-length r ∙ sym (over-length (criticalOf X r) (seenRow X r) ∙ seen-length X r sound seen))
 
 stopped : (X : List (List Float)) (m : ℕ) (b : Bool) (r : State) → r .ended ≡ b → r .ended ≡ true → lastState r (stepsFrom m b X r) .ended ≡ true
 unfolding stepsFrom lastState
