@@ -12,7 +12,6 @@ use lib.Seq.{take-suc, take-suc-set, take-all, drop-cons}
 use lib.Dec.{leb}
 use lib.Pow.{pow-mono}
 use lib.Ieee.{Float, nan}
-use Rattle.order.specs.Order.{atMost}
 use Rattle.order.specs.Counting.{bit}
 use Rattle.order.specs.Lists.{rowsOf}
 use Rattle.order.proofs.Lists.{map-more, rowsOf-length}

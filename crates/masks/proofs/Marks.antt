@@ -5,18 +5,17 @@
 --   holding-length     at most all
 use Prim.Native.Nat.{ℕ, _+_, _-_, _^_, _≤_, _<_}
 use native.Mathlib.Omega.{arith}
-use mathlib.Core.Path.{_≡_, refl, sym, ap, ap₂, _∙_, subst}
+use mathlib.Core.Path.{_≡_, refl, sym, ap, ap₂, _∙_}
 use mathlib.Core.Bool.{Bool, true, false, cond, _&&_, _||_}
 use mathlib.Core.List.{List, [], _∷_, map, zipWith}
 use lib.ListN.{length, length-map}
 use lib.Dec.{T, leb, leb→le, le→leb}
-use lib.Bits.{bitAnd}
 use lib.Ieee.{Float}
 use Rattle.order.specs.Counting.{bit, count, all}
 use Rattle.order.proofs.Booleans.{and-left, and-right, T-false, never}
 use Rattle.order.proofs.Counts.{count-le-all, count-same-all, count-length}
 use Rattle.order.proofs.Rows.{Sound, soundRow, sound-length}
-use Rattle.columns.specs.Columns.{Columns, size, _∩_, _∪_, columnsOf, maskOf}
+use Rattle.columns.specs.Columns.{Columns, size, _∩_, _∪_, columnsOf}
 use Rattle.columns.proofs.Sets.{length-∪}
 use Rattle.columns.proofs.Masks.{columnsOf-length, columnsOf-maskOf}
 use Rattle.columns.proofs.PutBack.{meet-size}

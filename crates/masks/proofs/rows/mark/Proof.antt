@@ -6,7 +6,7 @@ use Rattle.masks.specs.Internal.{CheckedTable}
 use Rattle.masks.specs.Marks.{marksOf}
 use Rattle.masks.proofs.Parts.{start-fits, part-narrow}
 use Rattle.masks.proofs.Marking.{marked-start, marked-in, marked-past, marked-done}
-use lib.ListN.{length, take, set, length-set}
+use lib.ListN.{length, take, length-set}
 use mathlib.Core.Logic.{⊎-elim}
 use native.Mathlib.Omega.{arith}
 use Prim.Native.Nat.{_≤_, _-_}
