@@ -1,21 +1,19 @@
 -- The rows of a checked table as parts of it, and their k-max values in the work buffer.
 --   row-value, row-held, row-turn, rows-end     row g's k-max, in its place
 --   front-is, back-is, front-rank, quantile-is     all rows' k-max values, and their quantile
-use Prim.Native.Nat.{ℕ, _+_, _-_, _*_, _^_, _≤_, _<_}
+use Prim.Native.Nat.{ℕ, _+_, _-_, _*_, _≤_, _<_}
 use native.Mathlib.Omega.{arith}
-use native.Mathlib.Nat.{suc-mul, mul-le-mul-right, add-sub-cancel-left}
 use mathlib.Core.Path.{_≡_, sym, ap, ap₂, _∙_, subst}
 use mathlib.Core.List.{List, [], map}
-use lib.ListN.{length, getD, take, drop, set, length-map, length-take, length-drop}
+use lib.ListN.{length, getD, take, drop, set, length-map}
 use lib.Seq.{take-at, drop-at}
 use lib.Dec.{T}
-use lib.Pow.{pow-mono}
 use lib.Ieee.{Float, nan}
 use Rattle.order.specs.Order.{finite}
 use Rattle.order.specs.Counting.{all}
 use Rattle.order.specs.Lists.{rowsOf}
 use Rattle.order.proofs.Rows.{Finite, rowsOf-sound}
-use Rattle.order.proofs.Lists.{part-rows, all-take, all-drop, rowsOf-length, rowsOf-row}
+use Rattle.order.proofs.Lists.{rowsOf-length}
 use Rattle.refusals.specs.Buffers.{written}
 use Rattle.refusals.proofs.Buffers.{filled, filled-turn, filled-end}
 use Rattle.select.specs.Rank.{mthSmallest}
