@@ -3,5 +3,4 @@ pub mod RowMax
 pub mod TableRows
 pub mod PutBackWalk
 pub mod PutBackValue
-pub mod MaskScan
 pub mod Tally

@@ -3,8 +3,8 @@ use Prim.Native.Nat.{ℕ, zero, suc, _+_, _-_, _≤_, _<_}
 use native.Mathlib.Omega.{arith}
 use mathlib.Core.Path.{_≡_, refl, sym, ap, _∙_}
 use mathlib.Core.Bool.{Bool, true, false, cond}
-use mathlib.Core.List.{List, [], _∷_, _++_, map}
-use lib.ListN.{length, replicate, length-map}
+use mathlib.Core.List.{List, [], _∷_, map}
+use lib.ListN.{length, length-map}
 use lib.Dec.{T, ltb}
 use lib.Ieee.{Float, inf}
 use borrow.Author.Tests.{ltb-true, ltb-false, lt-ltb, le-ltb}
@@ -19,7 +19,9 @@ use Rattle.columns.specs.Columns.{Columns, size, _∪_, choose, columnsOf}
 use Rattle.columns.proofs.PutBack.{choose-some}
 use Rattle.method.specs.Method.{kMax, criticalValue, putBack}
 use Rattle.method.proofs.Critical.{sets-finite, criticalValue-finite}
-use Rattle.critical.specs.Internal.{larger, bestOf, CheckedTable}
+use Rattle.masks.specs.Internal.{CheckedTable}
+use Rattle.masks.proofs.Walks.{valuesFrom, values-all}
+use Rattle.critical.specs.Internal.{larger, bestOf}
 use Rattle.critical.proofs.Selection.{low, finite-low}
 use Rattle.critical.proofs.RowMax.{smaller-low, low-finite}
 
@@ -133,9 +135,8 @@ module _ (n k e : ℕ) (X : List (List Float)) (s : Sound n X) (A R : Columns) (
 
 -- the walk from column 0 over the rejected columns
 pub put-back-value : (t : List Float) (rows cols k e remaining rejected : ℕ) {r : Float} → CheckedTable t rows cols k → k - 1 ≤ size (columnsOf cols rejected)
-    → r ≡ bestOf (inf true) (map (λ I. criticalValue k e (rowsOf rows cols t) (columnsOf cols remaining ∪ (replicate 0 false ++ I))) (choose (k - 1) (columnsOf (cols - 0) rejected)))
+    → r ≡ bestOf (inf true) (valuesFrom (criticalValue k e (rowsOf rows cols t)) cols remaining rejected 0 (k - 1))
     → r ≡ putBack k e (rowsOf rows cols t) (columnsOf cols remaining) (columnsOf cols rejected)
 put-back-value t rows cols k e remaining rejected ready some v =
-    let z : cols - 0 ≡ cols = omega arith in
-    v ∙ ap (λ (n : ℕ). bestOf (inf true) (map (λ I. criticalValue k e (rowsOf rows cols t) (columnsOf cols remaining ∪ I)) (choose (k - 1) (columnsOf n rejected)))) z
+    v ∙ ap (bestOf (inf true)) (values-all (criticalValue k e (rowsOf rows cols t)) cols remaining rejected (k - 1))
     ∙ best-is cols k e (rowsOf rows cols t) (rowsOf-sound rows cols t (ready .full) (ready .finitely)) (columnsOf cols remaining) (columnsOf cols rejected) some

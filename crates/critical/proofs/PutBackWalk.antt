@@ -1,234 +1,54 @@
--- The walk over put-back sets, choice by choice.
+-- The walk over put-back sets, for the largest critical value.
 --   best-append          the largest of two lists, one after the other
---   put-columns          a column put into a set, as a mask
---   leaf-value, none-value, in-value, past-value      what the walk's four cases give
---   walk-in, walk-past     what holds at the calls they make
-use Prim.Native.Nat.{ℕ, zero, suc, _+_, _-_, _/_, _%_, _^_, _≤_, _<_}
-use native.Mathlib.Omega.{arith}
-use native.Mathlib.Numerals.{add-one}
-use native.Mathlib.Nat.{pow-suc}
-use mathlib.Core.Path.{_≡_, refl, sym, ap, ap₂, _∙_, subst}
-use mathlib.Core.Bool.{Bool, true, false, cond, _||_}
-use mathlib.Core.List.{List, [], _∷_, _++_, map, zipWith}
-use lib.ListN.{length, set, replicate, length-set}
-use lib.Seq.{getD-set-other}
-use lib.Dec.{T, eqb}
-use lib.Pow.{pow-mono}
+--   leaf-above, leaf-below, none-value, past-value, in-value      what the walk's cases give
+use Prim.Native.Nat.{ℕ, _+_, _-_, _/_, _%_, _≤_, _<_}
+use mathlib.Core.Path.{_≡_, refl, sym, ap, _∙_}
+use mathlib.Core.Bool.{Bool, true, false, cond}
+use mathlib.Core.List.{List, [], _∷_, _++_}
+use lib.ListN.{set}
 use lib.Ieee.{Float}
-use borrow.Author.Tests.{eq-eqb, ne-eqb}
 use Rattle.order.specs.Order.{smaller}
-use Rattle.order.specs.Counting.{bit, count}
-use Rattle.columns.specs.Columns.{Columns, size, _∪_, choose, columnsOf, maskOf}
-use Rattle.columns.proofs.Sets.{has}
-use Rattle.columns.proofs.Masks.{columnsOf-length, columnsOf-maskOf, maskOf-columnsOf, maskOf-lt}
+use Rattle.columns.specs.Columns.{columnsOf}
 use Rattle.method.specs.Method.{criticalValue}
-use Rattle.critical.specs.Internal.{larger, bestOf, Walk}
-
--- ---- lists
-
-module _ {A B : Type 0} where
-  map-append : (f : A → B) (s t : List A) → map f (s ++ t) ≡ map f s ++ map f t
-  map-append f [] t = refl
-  map-append f (x ∷ s) t = ap (λ (l : List B). f x ∷ l) (map-append f s t)
-
-  map-same : (f g : A → B) (l : List A) → ((x : A) → f x ≡ g x) → map f l ≡ map g l
-  map-same f g [] h = refl
-  map-same f g (x ∷ l) h = ap₂ (λ (y : B) (m : List B). y ∷ m) (h x) (map-same f g l h)
-
-map-twice : {A B C : Type 0} (f : B → C) (g : A → B) (l : List A) → map f (map g l) ≡ map (λ x. f (g x)) l
-map-twice f g [] = refl
-map-twice f g (x ∷ l) = ap (λ m. f (g x) ∷ m) (map-twice f g l)
+use Rattle.masks.proofs.Walks.{valuesFrom, values-leaf, values-none, values-past, values-in}
+use Rattle.critical.specs.Internal.{larger, bestOf}
 
 pub best-append : (b : Float) (xs ys : List Float) → bestOf b (xs ++ ys) ≡ bestOf (bestOf b xs) ys
 unfolding bestOf
 best-append b [] ys = refl
 best-append b (x ∷ xs) ys = best-append (larger b x) xs ys
 
--- ---- a column put into a set
-
-mask-set : (K : Columns) (j : ℕ) → j < length K → has K j ≡ false → maskOf (set K j true) ≡ maskOf K + 2 ^ j
-unfolding maskOf
-mask-set [] j h e = absurd (omega arith)
-mask-set (b ∷ K) zero h e = omega (arith, ap bit e)
-mask-set (b ∷ K) (suc j) h e = omega (arith, mask-set K j (omega arith) e, pow-suc 2 j)
-
-pub size-set : (K : Columns) (j : ℕ) → j < length K → has K j ≡ false → size (set K j true) ≡ suc (size K)
-unfolding size count
-size-set [] j h e = absurd (omega arith)
-size-set (b ∷ K) zero h e = omega (arith, ap bit e)
-size-set (b ∷ K) (suc j) h e = omega (arith, size-set K j (omega arith) e)
-
-module _ (cols s j : ℕ) (inside : s < 2 ^ cols) (h : j < cols) (e : has (columnsOf cols s) j ≡ false) where
-  put-mask : maskOf (set (columnsOf cols s) j true) ≡ s + 2 ^ j
-  put-mask = mask-set (columnsOf cols s) j (omega (arith, columnsOf-length cols s)) e ∙ ap (λ (n : ℕ). n + 2 ^ j) (maskOf-columnsOf cols s inside)
-
-  pub put-lt : s + 2 ^ j < 2 ^ cols
-  put-lt = subst (λ (n : ℕ). n < 2 ^ cols) put-mask
-      (subst (λ (n : ℕ). maskOf (set (columnsOf cols s) j true) < 2 ^ n) (length-set (columnsOf cols s) j true ∙ columnsOf-length cols s) (maskOf-lt (set (columnsOf cols s) j true)))
-
-  pub put-columns : columnsOf cols (s + 2 ^ j) ≡ set (columnsOf cols s) j true
-  put-columns =
-      ap₂ (λ (m n : ℕ). columnsOf m n) (sym (length-set (columnsOf cols s) j true ∙ columnsOf-length cols s)) (sym put-mask) ∙ columnsOf-maskOf (set (columnsOf cols s) j true)
-
--- ---- with a choice of later columns
-
--- K with the columns I, which start at column j
-abbrev pub joinAt : Columns → ℕ → Columns → Columns
-joinAt K j I = K ∪ (replicate j false ++ I)
-
-or-true : (a : Bool) → (a || true) ≡ true
-or-true true = refl
-or-true false = refl
-
-or-false : (a : Bool) → (a || false) ≡ a
-or-false true = refl
-or-false false = refl
-
-join-in : (K : Columns) (j : ℕ) (I : Columns) → joinAt K j (true ∷ I) ≡ joinAt (set K j true) (suc j) I
-unfolding _∪_ zipWith
-join-in [] zero I = refl
-join-in [] (suc j) I = refl
-join-in (a ∷ K) zero I = ap (λ (b : Bool). b ∷ zipWith _||_ K I) (or-true a)
-join-in (a ∷ K) (suc j) I = ap (λ (L : Columns). (a || false) ∷ L) (join-in K j I)
-
-join-past : (K : Columns) (j : ℕ) (I : Columns) → joinAt K j (false ∷ I) ≡ joinAt K (suc j) I
-join-past K j I = ap (λ (L : Columns). K ∪ L) (shift j)
-  where
-    shift : (j : ℕ) → replicate j false ++ (false ∷ I) ≡ replicate (suc j) false ++ I
-    shift zero = refl
-    shift (suc j) = ap (λ (L : Columns). false ∷ L) (shift j)
-
-join-none : (K R : Columns) (j : ℕ) → length K ≡ j + length R → joinAt K j (map (λ _. false) R) ≡ K
-unfolding _∪_ zipWith
-join-none [] R zero h = refl
-join-none [] R (suc j) h = absurd (omega arith)
-join-none (a ∷ K) [] zero h = absurd (omega arith)
-join-none (a ∷ K) (r ∷ R) zero h = ap₂ (λ (b : Bool) (L : Columns). b ∷ L) (or-false a) (join-none K R zero (omega arith))
-join-none (a ∷ K) R (suc j) h = ap₂ (λ (b : Bool) (L : Columns). b ∷ L) (or-false a) (join-none K R j (omega arith))
-
-choose-zero : (j m : ℕ) → choose (suc j) (columnsOf m 0) ≡ []
-unfolding choose columnsOf
-choose-zero j zero = refl
-choose-zero j (suc m) = ap (map (λ I. false ∷ I)) (choose-zero j m)
-
--- ---- what the walk gives
-
 module _ (k e : ℕ) (X : List (List Float)) (cols : ℕ) where
   abbrev pub walked : ℕ → ℕ → ℕ → ℕ → Float → Float
-  walked s rest from left best = bestOf best (map (λ I. criticalValue k e X (columnsOf cols s ∪ (replicate from false ++ I))) (choose left (columnsOf (cols - from) rest)))
+  walked s rest from left best = bestOf best (valuesFrom (criticalValue k e X) cols s rest from left)
 
-  module _ (s rest from : ℕ) (best : Float) where
-    -- nothing left to choose
-    pub leaf-value : (left : ℕ) → from ≤ cols → left ≡ 0 → walked s rest from left best ≡ larger best (criticalValue k e X (columnsOf cols s))
-    unfolding choose bestOf
-    leaf-value left h z =
-        ap (λ (n : ℕ). walked s rest from n best) z
-        ∙ ap (λ (K : Columns). larger best (criticalValue k e X K)) (join-none (columnsOf cols s) (columnsOf (cols - from) rest) from (omega (arith, columnsOf-length cols s, columnsOf-length (cols - from) rest)))
+  module _ (s rest from left : ℕ) (best : Float) where
+    -- nothing left to choose: the critical value of the set
+    module _ (c : Float) (h : from ≤ cols) (z : left ≡ 0) (v : c ≡ criticalValue k e X (columnsOf cols s)) where
+      leaf : (b : Bool) → smaller best c ≡ b → walked s rest from left best ≡ cond b c best
+      unfolding bestOf
+      leaf b t = ap (bestOf best) (values-leaf (criticalValue k e X) cols s rest from left h z) ∙ ap (larger best) (sym v) ∙ ap (λ (d : Bool). cond d c best) t
 
-    pub leaf-above : (left : ℕ) (c : Float) → from ≤ cols → left ≡ 0 → c ≡ criticalValue k e X (columnsOf cols s) → smaller best c ≡ true → c ≡ walked s rest from left best
-    leaf-above left c h z v t = sym (leaf-value left h z ∙ ap (larger best) (sym v) ∙ ap (λ (b : Bool). cond b c best) t)
+      pub leaf-above : smaller best c ≡ true → c ≡ walked s rest from left best
+      leaf-above t = sym (leaf true t)
 
-    pub leaf-below : (left : ℕ) (c : Float) → from ≤ cols → left ≡ 0 → c ≡ criticalValue k e X (columnsOf cols s) → smaller best c ≡ false → best ≡ walked s rest from left best
-    leaf-below left c h z v t = sym (leaf-value left h z ∙ ap (larger best) (sym v) ∙ ap (λ (b : Bool). cond b c best) t)
+      pub leaf-below : smaller best c ≡ false → best ≡ walked s rest from left best
+      leaf-below t = sym (leaf false t)
 
     -- nothing left to choose from
-    pub none-value : (left : ℕ) → (left ≡ 0 → ⊥) → rest ≡ 0 → best ≡ walked s rest from left best
+    pub none-value : (left ≡ 0 → ⊥) → rest ≡ 0 → best ≡ walked s rest from left best
     unfolding bestOf
-    none-value zero f z = absurd (f refl)
-    none-value (suc left) f z = sym (ap (λ (n : ℕ). walked s n from (suc left) best) z ∙ ap (λ (l : List Columns). bestOf best (map (λ I. criticalValue k e X (joinAt (columnsOf cols s) from I)) l)) (choose-zero left (cols - from)))
+    none-value g z = sym (ap (bestOf best) (values-none (criticalValue k e X) cols s rest from left g z))
 
-    module _ (h : from < cols) where
-      split : (b : Bool) → eqb (rest % 2) 1 ≡ b → columnsOf (cols - from) rest ≡ b ∷ columnsOf (cols - (from + 1)) (rest / 2)
-      unfolding columnsOf
-      split b q = let n : cols - from ≡ suc (cols - (from + 1)) = omega arith in ap (λ (m : ℕ). columnsOf m rest) n ∙ ap (λ (c : Bool). c ∷ columnsOf (cols - (from + 1)) (rest / 2)) q
-
-      step-past : (K : Columns) (l : List Columns) → map (λ I. criticalValue k e X (joinAt K from I)) (map (λ I. false ∷ I) l) ≡ map (λ I. criticalValue k e X (joinAt K (from + 1) I)) l
-      step-past K l = map-twice (λ I. criticalValue k e X (joinAt K from I)) (λ I. false ∷ I) l
-          ∙ map-same (λ I. criticalValue k e X (joinAt K from (false ∷ I))) (λ I. criticalValue k e X (joinAt K (from + 1) I)) l (λ I. ap (criticalValue k e X) (join-past K from I ∙ ap (λ (n : ℕ). joinAt K n I) (sym (add-one from))))
-
-      step-in : (K : Columns) (l : List Columns) → map (λ I. criticalValue k e X (joinAt K from I)) (map (λ I. true ∷ I) l) ≡ map (λ I. criticalValue k e X (joinAt (set K from true) (from + 1) I)) l
-      step-in K l = map-twice (λ I. criticalValue k e X (joinAt K from I)) (λ I. true ∷ I) l
-          ∙ map-same (λ I. criticalValue k e X (joinAt K from (true ∷ I))) (λ I. criticalValue k e X (joinAt (set K from true) (from + 1) I)) l (λ I. ap (criticalValue k e X) (join-in K from I ∙ ap (λ (n : ℕ). joinAt (set K from true) n I) (sym (add-one from))))
-
+    module _ (h : from < cols) (g : left ≡ 0 → ⊥) where
       -- the column `from` is not rejected
-      pub past-value : (left : ℕ) → (left ≡ 0 → ⊥) → (rest % 2 ≡ 1 → ⊥) → walked s (rest / 2) (from + 1) left best ≡ walked s rest from left best
-      unfolding choose
-      past-value zero f q = absurd (f refl)
-      past-value (suc left) f q =
-          sym (ap (λ (R : Columns). bestOf best (map (λ I. criticalValue k e X (joinAt (columnsOf cols s) from I)) (choose (suc left) R))) (split false (ne-eqb (rest % 2) 1 q))
-          ∙ ap (bestOf best) (step-past (columnsOf cols s) (choose (suc left) (columnsOf (cols - (from + 1)) (rest / 2)))))
+      pub past-value : (rest % 2 ≡ 1 → ⊥) → walked s (rest / 2) (from + 1) left best ≡ walked s rest from left best
+      past-value q = ap (bestOf best) (values-past (criticalValue k e X) cols s rest from left h g q)
 
       -- it is: chosen first, and then not
-      pub in-value : (left s′ : ℕ) (b : Float) → (left ≡ 0 → ⊥) → rest % 2 ≡ 1 → columnsOf cols s′ ≡ set (columnsOf cols s) from true → b ≡ walked s′ (rest / 2) (from + 1) (left - 1) best
+      pub in-value : (s′ : ℕ) (b : Float) → rest % 2 ≡ 1 → columnsOf cols s′ ≡ set (columnsOf cols s) from true → b ≡ walked s′ (rest / 2) (from + 1) (left - 1) best
           → walked s (rest / 2) (from + 1) left b ≡ walked s rest from left best
-      unfolding choose
-      in-value zero s′ b f q p v = absurd (f refl)
-      in-value (suc left) s′ b f q p v =
-          ap (λ (x : Float). bestOf x rest-values) (v ∙ ap (λ (n : ℕ). walked s′ (rest / 2) (from + 1) n best) (let z : suc left - 1 ≡ left = omega arith in z)
-          ∙ ap (λ (K : Columns). bestOf best (map (λ I. criticalValue k e X (joinAt K (from + 1) I)) (choose left (columnsOf (cols - (from + 1)) (rest / 2))))) p)
-          ∙ sym (ap (λ (R : Columns). bestOf best (map (λ I. criticalValue k e X (joinAt (columnsOf cols s) from I)) (choose (suc left) R))) (split true (eq-eqb (rest % 2) 1 q))
-          ∙ ap (bestOf best) (map-append (λ I. criticalValue k e X (joinAt (columnsOf cols s) from I)) (map (λ I. true ∷ I) (choose left R′)) (map (λ I. false ∷ I) (choose (suc left) R′))
-          ∙ ap₂ (λ (x y : List Float). x ++ y) (step-in (columnsOf cols s) (choose left R′)) (step-past (columnsOf cols s) (choose (suc left) R′)))
-          ∙ best-append best (map (λ I. criticalValue k e X (joinAt (set (columnsOf cols s) from true) (from + 1) I)) (choose left R′)) rest-values)
-        where
-          R′ : Columns
-          R′ = columnsOf (cols - (from + 1)) (rest / 2)
-
-          rest-values : List Float
-          rest-values = map (λ I. criticalValue k e X (joinAt (columnsOf cols s) (from + 1) I)) (choose (suc left) (columnsOf (cols - (from + 1)) (rest / 2)))
-
--- ---- what holds at the next calls
-
-half-lt : (r m : ℕ) → 0 < m → r < 2 ^ m → r / 2 < 2 ^ (m - 1)
-half-lt r zero p h = absurd (omega arith)
-half-lt r (suc m) p h = let e : suc m - 1 ≡ m = omega arith in rw e (omega (arith, pow-suc 2 m))
-
-half-room : (cols from r : ℕ) → from < cols → r < 2 ^ (cols - from) → r / 2 < 2 ^ (cols - (from + 1))
-half-room cols from r l h = let e : cols - (from + 1) ≡ cols - from - 1 = omega arith in rw e (half-lt r (cols - from) (omega arith) h)
-
-module _ (cols k s rest from left : ℕ) (w : Walk cols k s rest from left) (some : rest ≡ 0 → ⊥) where
-  pub before-end : from < cols
-  before-end = go (cols - from) refl
-    where
-      go : (m : ℕ) → cols - from ≡ m → from < cols
-      go zero e = absurd (some (omega (arith, subst (λ (n : ℕ). rest < 2 ^ n) e (w .rests))))
-      go (suc m) e = omega arith
-
-  rest-split : columnsOf (cols - from) rest ≡ eqb (rest % 2) 1 ∷ columnsOf (cols - (from + 1)) (rest / 2)
-  unfolding columnsOf
-  rest-split = let e : cols - from ≡ suc (cols - (from + 1)) = omega (arith, before-end) in ap (λ (n : ℕ). columnsOf n rest) e
-
-  -- a later rejected column is not in the set
-  later-apart : (j : ℕ) → T (has (columnsOf (cols - (from + 1)) (rest / 2)) j) → has (columnsOf cols s) (from + 1 + j) ≡ false
-  later-apart j t = let e : from + suc j ≡ from + 1 + j = omega arith in
-      subst (λ (n : ℕ). has (columnsOf cols s) n ≡ false) e (w .apart (suc j) (subst (λ (R : Columns). T (has R (suc j))) (sym rest-split) t))
-
-  pub walk-past : Walk cols k s (rest / 2) (from + 1) left
-  walk-past = record { place = omega (arith, before-end); inside = w .inside; rests = half-room cols from rest before-end (w .rests); apart = later-apart; many = w .many }
-
-  module _ (odd : rest % 2 ≡ 1) where
-    pub free : has (columnsOf cols s) from ≡ false
-    free = let e : from + 0 ≡ from = omega arith in
-        subst (λ (n : ℕ). has (columnsOf cols s) n ≡ false) e
-        (w .apart 0 (subst (λ (R : Columns). T (has R 0)) (sym (rest-split ∙ ap (λ (b : Bool). b ∷ columnsOf (cols - (from + 1)) (rest / 2)) (eq-eqb (rest % 2) 1 odd))) tt))
-
-    pub chosen-fits : cols ≤ 32 → (v : ℕ) → v ≡ 2 ^ from → s + v < 2 ^ 32
-    chosen-fits h v e = let l : 2 ^ cols ≤ 2 ^ 32 = pow-mono h in let p = put-lt cols s from (w .inside) before-end free in omega (arith, l, p, e)
-
-    pub chosen-columns : (v : ℕ) → v ≡ 2 ^ from → columnsOf cols (s + v) ≡ set (columnsOf cols s) from true
-    chosen-columns v e = ap (λ (x : ℕ). columnsOf cols (s + x)) e ∙ put-columns cols s from (w .inside) before-end free
-
-    pub walk-in : (v : ℕ) → v ≡ 2 ^ from → (left ≡ 0 → ⊥) → Walk cols k (s + v) (rest / 2) (from + 1) (left - 1)
-    walk-in v e n = record {
-      place = omega (arith, before-end);
-      inside = subst (λ (x : ℕ). s + x < 2 ^ cols) (sym e) (put-lt cols s from (w .inside) before-end free);
-      rests = half-room cols from rest before-end (w .rests);
-      apart = λ j t. ap (λ (K : Columns). has K (from + 1 + j)) (chosen-columns v e) ∙ getD-set-other (columnsOf cols s) from (from + 1 + j) true false (λ q. omega arith) ∙ later-apart j t;
-      many = omega (arith, w .many, n, ap size (chosen-columns v e), size-set (columnsOf cols s) from (omega (arith, columnsOf-length cols s, before-end)) free);
-    }
-
-pub half-falls : {t : ℕ} (r : ℕ) → (r ≡ 0 → ⊥) → r ≡ t → r / 2 < t
-half-falls r f e = omega (arith, f)
-
-pub leaf-held : {cols k s rest from left : ℕ} → Walk cols k s rest from left → left ≡ 0 → k ≤ size (columnsOf cols s)
-leaf-held w z = omega (arith, w .many)
+      in-value s′ b q p v =
+          ap (λ (x : Float). walked s (rest / 2) (from + 1) left x) v
+          ∙ sym (best-append best (valuesFrom (criticalValue k e X) cols s′ (rest / 2) (from + 1) (left - 1)) (valuesFrom (criticalValue k e X) cols s (rest / 2) (from + 1) left))
+          ∙ ap (bestOf best) (values-in (criticalValue k e X) cols s rest from left s′ h g q p)

@@ -1,51 +1,27 @@
 -- The rows of a checked table as parts of it, and their k-max values in the work buffer.
---   part-fits, part-row     row g of a table is the part of it from g * cols on
---   row-value, row-held     its k-max
-use Prim.Native.Nat.{ℕ, _+_, _-_, _*_, _^_, _≤_, _<_}
+--   row-value, row-held, row-turn, rows-end     row g's k-max, in its place
+--   front-is, back-is, front-rank, quantile-is     all rows' k-max values, and their quantile
+use Prim.Native.Nat.{ℕ, _+_, _-_, _*_, _≤_, _<_}
 use native.Mathlib.Omega.{arith}
-use native.Mathlib.Nat.{suc-mul, mul-le-mul-right, add-sub-cancel-left}
 use mathlib.Core.Path.{_≡_, sym, ap, ap₂, _∙_, subst}
 use mathlib.Core.List.{List, [], map}
-use lib.ListN.{length, getD, take, drop, set, length-map, length-take, length-drop}
+use lib.ListN.{length, getD, take, drop, set, length-map}
 use lib.Seq.{take-at, drop-at}
 use lib.Dec.{T}
-use lib.Pow.{pow-mono}
 use lib.Ieee.{Float, nan}
 use Rattle.order.specs.Order.{finite}
 use Rattle.order.specs.Counting.{all}
 use Rattle.order.specs.Lists.{rowsOf}
 use Rattle.order.proofs.Rows.{Finite, rowsOf-sound}
-use Rattle.order.proofs.Lists.{part-rows, all-take, all-drop, rowsOf-length, rowsOf-row}
+use Rattle.order.proofs.Lists.{rowsOf-length}
 use Rattle.refusals.specs.Buffers.{written}
 use Rattle.refusals.proofs.Buffers.{filled, filled-turn, filled-end}
 use Rattle.select.specs.Rank.{mthSmallest}
 use Rattle.columns.specs.Columns.{size, columnsOf}
 use Rattle.method.specs.Method.{kMax, criticalValue}
 use Rattle.method.proofs.Critical.{tops, tops-finite}
-use Rattle.critical.specs.Internal.{CheckedTable}
-
--- ---- the part of the table that is row g
-
--- row g ends within the table
-part-fits : (t : List Float) (rows cols g : ℕ) → length t ≡ rows * cols → g < rows → g * cols + cols ≤ length t
-part-fits t rows cols g e h = omega (arith, part-rows rows cols g h)
-
--- a start of a row fits a usize
-pub start-fits : (rows cols g : ℕ) → rows ≤ 4096 → cols ≤ 32 → g < rows → g * cols + cols ≤ 131072
-start-fits rows cols g h c l = omega (arith, suc-mul g cols, mul-le-mul-right cols l, mul-le-mul-right cols h)
-
-module _ (t : List Float) (rows cols k g : ℕ) (r : CheckedTable t rows cols k) (h : g < rows) where
-  part : List Float
-  part = take (g * cols + cols - g * cols) (drop (g * cols) t)
-
-  pub part-length : length (take (g * cols + cols - g * cols) (drop (g * cols) t)) ≡ cols
-  part-length = simp (length-take, length-drop) (omega (arith, part-fits t rows cols g (r .full) h))
-
-  pub part-finite : Finite (take (g * cols + cols - g * cols) (drop (g * cols) t))
-  part-finite = all-take finite (g * cols + cols - g * cols) (drop (g * cols) t) (all-drop finite (g * cols) t (r .finitely))
-
-  pub part-row : take (g * cols + cols - g * cols) (drop (g * cols) t) ≡ getD (rowsOf rows cols t) g []
-  part-row = ap (λ (n : ℕ). take n (drop (g * cols) t)) (add-sub-cancel-left (g * cols) cols) ∙ sym (rowsOf-row rows cols t g h)
+use Rattle.masks.specs.Internal.{CheckedTable}
+use Rattle.masks.proofs.Parts.{part-length, part-row}
 
 -- ---- one row of the table
 
@@ -92,11 +68,3 @@ module _ (t : List Float) (rows cols k e set : ℕ) (r : CheckedTable t rows col
 
   pub front-rank : T (all finite (take rows w)) × (0 < rows - e) × (rows - e ≤ length (take rows w))
   front-rank = (front-finite, omega arith, omega (arith, front-length))
-
--- a row has at most 32 values
-pub part-narrow : (t : List Float) (rows cols k g : ℕ) (r : CheckedTable t rows cols k) → g < rows → length (take (g * cols + cols - g * cols) (drop (g * cols) t)) ≤ 32
-part-narrow t rows cols k g r h = omega (arith, part-length t rows cols k g r h, r .cols-most)
-
--- a set of at most 32 columns fits a u32
-pub mask-fits : {n s : ℕ} → n ≤ 32 → s < 2 ^ n → s < 2 ^ 32
-mask-fits h l = let p = pow-mono h in omega (arith, p)

@@ -3,7 +3,7 @@ ghost use mathlib.Core.Path.{_≡_};
 ghost use Prim.Native.Nat.{_<_};
 ghost use Rattle.order.specs.Lists.{rowsOf};
 ghost use Rattle.method.specs.Method.{atLeast};
-ghost use Rattle.critical.specs.Internal.{CheckedTable};
+ghost use Rattle.masks.specs.Internal.{CheckedTable};
 
 pub fn at_least(table: &[f64], rows: usize, columns: usize, k: usize, j: usize, v: f64) -> usize
     requires { ⌜ CheckedTable (now table) rows columns k × (j < columns) ⌝ }

@@ -1,17 +1,12 @@
 // Critical values of a table that has passed its checks: a row's k-max, c(K), the put-back value, and counts of rows.
-// INNER: these functions ask for what they need (`requires`): a checked table, or sizes within the limits. Their callers are `engine`, and
-// `stepdown` for the mask of all columns and the size of a mask; no other crate uses them.
+// INNER: these functions ask for what they need (`requires`): a checked table, or sizes within the limits. Their caller is `engine`.
 mod counts; // formula 16: how many rows reach an observed value
 mod kmax; // a row's k-max
-mod masks; // sets of columns as the bits of a number
 mod putback; // the walk over put-back sets
 mod quantile; // c(K): a quantile of the k-max values, with the work buffer
 mod smallest; // the m-th smallest of a slice
 
 pub use counts::at_least;
-pub use masks::above;
-pub use masks::full_mask;
-pub use masks::size_of;
 pub use putback::put_back;
 pub use quantile::critical_value;
 

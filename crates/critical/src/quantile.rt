@@ -10,7 +10,7 @@ ghost use Rattle.order.specs.Lists.{rowsOf};
 ghost use Rattle.refusals.specs.Buffers.{written};
 ghost use Rattle.columns.specs.Columns.{size, columnsOf};
 ghost use Rattle.method.specs.Method.{kMax, criticalValue};
-ghost use Rattle.critical.specs.Internal.{CheckedTable};
+ghost use Rattle.masks.specs.Internal.{CheckedTable};
 
 // The k-max of each row over the columns of `set`, into the first places of the work buffer.
 fn fill(table: &[f64], work: &mut [f64], rows: usize, cols: usize, k: usize, set: u32)

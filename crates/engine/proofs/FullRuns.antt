@@ -30,7 +30,7 @@ use Rattle.runs.specs.declared.Decision.{Decision}
 use Rattle.runs.specs.declared.FullRun.{FullRun}
 use Rattle.runs.proofs.Start.{first-empty, first-left, first-open}
 use Rattle.runs.proofs.Termination.{steps-few}
-use Rattle.critical.specs.Internal.{CheckedTable}
+use Rattle.masks.specs.Internal.{CheckedTable}
 use Rattle.engine.specs.Internal.{CanStep, Traced, traceOf, verdictOver, verdictIn, finishedRun}
 use Rattle.engine.specs.declared.tracing.Trace.{Trace}
 

@@ -1,7 +1,7 @@
 -- One step from a state that can be stepped, by masks.
 --   in-progress             what such a state is known to be
 --   critical-start, critical-next     the critical value of step 1, and of a later step
---   walk-start              what holds where the put-back walk begins
+--   walk-start, walk-held   what holds where the put-back walk begins
 --   new-fits, step-is       the state after the step, and its record
 --   stops-..                whether the step ends the run
 --   next-can                a state that goes on after a step can be stepped again
@@ -27,7 +27,7 @@ use Rattle.runs.specs.Stepdown.{liveSet, rejectedSet, criticalOf, newlyRejected
 use Rattle.runs.specs.declared.State.{State}
 use Rattle.runs.proofs.Steps.{seenRow, critical-first, critical-later, rejected-length, same-length, seen-length, over-left, newly-is, both-length, next-rejected, going-on}
 use Rattle.runs.proofs.Descent.{InProgress, next-inside}
-use Rattle.critical.specs.Internal.{Walk}
+use Rattle.masks.specs.Internal.{Walk}
 use Rattle.engine.specs.Internal.{CanStep, stops}
 
 module _ (t : List Float) (r : State) (g : CanStep t r) where
@@ -73,15 +73,17 @@ module _ (t : List Float) (r : State) (g : CanStep t r) where
       off true false u = absurd u
       off false b u = refl
 
-  pub walk-start : Walk (r .columns) (r .k) (r .live - r .rejected) (r .rejected) 0 (r .k - 1)
+  pub walk-start : Walk (r .columns) (r .live - r .rejected) (r .rejected) 0
   walk-start = record {
     place = omega arith;
     inside = omega (arith, g .live-fits);
     rests = let z : r .columns - 0 ≡ r .columns = omega arith in subst (λ (n : ℕ). r .rejected < 2 ^ n) (sym z) (g .fits);
     apart = λ j u. let z : r .columns - 0 ≡ r .columns = omega arith in let y : 0 + j ≡ j = omega arith in
         ap₂ (λ (K : Columns) (i : ℕ). has K i) left-is y ∙ apart j (subst (λ (n : ℕ). T (has (columnsOf n (r .rejected)) j)) z u);
-    many = omega (arith, ap size left-is, g .left);
   }
+
+  pub walk-held : r .k ≤ size (columnsOf (r .columns) (r .live - r .rejected)) + (r .k - 1)
+  walk-held = omega (arith, ap size left-is, g .left)
 
   pub put-held : (r .steps ≡ 0 → ⊥) → r .k - 1 ≤ size (rejectedSet r)
   put-held z = omega (arith, g .many (positive (r .steps) z))

@@ -25,7 +25,7 @@ use Rattle.runs.specs.declared.Record.{Record}
 use Rattle.runs.specs.declared.Verdict.{Verdict}
 use Rattle.runs.specs.declared.Verdict.the-variants.{Rejected, Kept}
 use Rattle.runs.specs.declared.FullRun.{FullRun}
-use Rattle.critical.specs.Internal.{CheckedTable}
+use Rattle.masks.specs.Internal.{CheckedTable}
 use Rattle.engine.specs.declared.tracing.Trace.{Trace}
 
 pub record CanStep (t : List Float) (s : State) : Type 0 where

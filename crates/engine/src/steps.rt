@@ -47,7 +47,7 @@ fn ends(columns: usize, k: usize, live: u32, new: u32, rejected: u32) -> bool
     if new == 0 {
         return true;
     }
-    if critical::size_of(columns, rejected) < k {
+    if masks::size_of(columns, rejected) < k {
         return true;
     }
     live == rejected
@@ -62,7 +62,7 @@ pub fn step(s: State, table: &[f64], work: &mut [f64]) -> Step
     let from = s.observed * s.columns;
     let to = from + s.columns;
     let remaining = s.live - s.rejected;
-    let new = critical::above(&table[from..to], remaining, c);
+    let new = masks::above(&table[from..to], remaining, c);
     let rejected = s.rejected + new;
     let ended = ends(s.columns, s.k, s.live, new, rejected);
     let number = s.steps + 1;

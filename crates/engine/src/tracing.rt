@@ -14,7 +14,7 @@ ghost use Rattle.order.specs.Lists.{rowsOf};
 ghost use Rattle.refusals.specs.Buffers.{cleared};
 ghost use Rattle.runs.specs.Stepdown.{stepsOf, firstState, fullRun};
 ghost use Rattle.runs.specs.FullRuns.{acceptedRun};
-ghost use Rattle.critical.specs.Internal.{CheckedTable};
+ghost use Rattle.masks.specs.Internal.{CheckedTable};
 ghost use Rattle.engine.specs.Internal.{CanStep, Traced, traceOf, notedAt, verdictIn, finishedRun};
 
 // The records of the steps taken and the rejected sets after them.
@@ -130,7 +130,7 @@ pub fn full_run(
     ensures { λ r. ⌜ r ≡ acceptedRun (fullRun (rowsOf rows columns (now (table .entry))) (firstState rows columns k e observed live)) ⌝ }
     ensures { λ r. ⌜ now (work .exit) ≡ cleared rows (now (work .entry)) ⌝ }
 {
-    let few = critical::size_of(columns, live) < k;
+    let few = masks::size_of(columns, live) < k;
     let start = State {
         rows,
         columns,

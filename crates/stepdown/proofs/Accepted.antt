@@ -19,7 +19,7 @@ use Rattle.refusals.specs.Buffers.{tooShort}
 use Rattle.refusals.specs.Limits.{badLevel, allowance}
 use Rattle.refusals.proofs.Answers.{NoneHolds, none-holds, both-pass}
 use Rattle.refusals.proofs.Limits.{Sizes, sizes, Level, level, allowance-lt}
-use Rattle.critical.specs.Internal.{CheckedTable}
+use Rattle.masks.specs.Internal.{CheckedTable}
 use Rattle.stepdown.specs.Runs.{begun}
 use Rattle.stepdown.specs.Refusals.{badShape, badValue, tableChecks, tableRefusal, tableRunRefusal, badFigures}
 

@@ -34,7 +34,7 @@ use Rattle.runs.specs.declared.Record.{Record}
 use Rattle.runs.proofs.Steps.{GoingOn, going-on, ended-exactly}
 use Rattle.runs.proofs.Start.{table-open}
 use Rattle.runs.proofs.Termination.{left-falls}
-use Rattle.critical.specs.Internal.{CheckedTable}
+use Rattle.masks.specs.Internal.{CheckedTable}
 use Rattle.engine.specs.Internal.{CanStep}
 use Rattle.engine.proofs.OneStep.{in-progress, next-fits}
 use Rattle.stepdown.specs.Runs.{begun, stateOf, resume, nextRun, stepRecord}

@@ -58,7 +58,7 @@ fn state_of(r: Run) -> State
         k: r.k,
         e: allowance(r.rows, r.a, r.b),
         observed: r.observed,
-        live: critical::full_mask(r.columns),
+        live: masks::full_mask(r.columns),
         rejected: r.rejected,
         steps: r.steps,
         ended: r.ended,
@@ -148,6 +148,6 @@ pub fn full_run(
         return runs::refused(n);
     }
     let e = allowance(rows, a, b);
-    let live = critical::full_mask(columns);
+    let live = masks::full_mask(columns);
     engine::full_run(table, work, rows, columns, k, e, observed, live)
 }

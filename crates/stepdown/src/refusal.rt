@@ -76,7 +76,7 @@ fn bad_progress(r: Run) -> bool
     requires { ⌜ conditions.badFigures r ≡ false ⌝ }
     ensures { λ b. ⌜ b ≡ conditions.any (conditions.progressClauses r) ⌝ }
 {
-    if critical::full_mask(r.columns) < r.rejected {
+    if masks::full_mask(r.columns) < r.rejected {
         return true;
     }
     if STEPS_MOST < r.steps {
@@ -91,7 +91,7 @@ fn bad_progress(r: Run) -> bool
     if r.ended {
         return false;
     }
-    let n = critical::size_of(r.columns, r.rejected);
+    let n = masks::size_of(r.columns, r.rejected);
     if n < r.steps {
         return true;
     }

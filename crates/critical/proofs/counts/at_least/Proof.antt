@@ -2,9 +2,9 @@
 use Rattle.order.specs.Lists.{rowsOf}
 use Rattle.order.proofs.Lists.{part-rows}
 use Rattle.method.specs.Method.{atLeast}
-use Rattle.critical.specs.Internal.{CheckedTable}
+use Rattle.masks.specs.Internal.{CheckedTable}
 use Rattle.critical.proofs.Tally.{reaching, tally-start, tally-in, tally-past, tally-end}
-use Rattle.critical.proofs.TableRows.{start-fits}
+use Rattle.masks.proofs.Parts.{start-fits}
 use mathlib.Core.Logic.{⊎-elim}
 use Prim.Native.Nat.{_≤_, _<_, _+_, _-_}
 use native.Mathlib.Omega.{arith}

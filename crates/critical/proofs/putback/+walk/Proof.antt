@@ -1,16 +1,17 @@
--- `walk` meets its contract. What is left of the rejected columns falls with each call, as a number; each case is a law of proofs/PutBackWalk.antt.
+-- `walk` meets its contract. What is left of the rejected columns falls with each call, as a number; each case is a law of proofs/PutBackWalk.antt, and what holds at the calls one of masks/proofs/Walks.antt.
 use borrow.Author.Needs.{needs}
 use Prim.Native.Nat.{ℕ, _<_}
 use native.Mathlib.Omega.{arith}
 use mathlib.Core.Path.{refl, _∙_}
 use borrow.Fn.Kinds.{In}
 use borrow.Fn.PlainCycle.{Measures, is, falls, and}
-use Rattle.critical.proofs.PutBackWalk.{leaf-held, leaf-above, leaf-below, none-value, past-value, in-value, before-end, chosen-fits, chosen-columns, walk-in, walk-past, half-falls}
+use Rattle.masks.proofs.Walks.{before-end, chosen-fits, chosen-columns, chosen-size, walk-in, walk-past, half-falls}
+use Rattle.critical.proofs.PutBackWalk.{leaf-above, leaf-below, none-value, past-value, in-value}
 use Rattle.critical.proofs.putback.+walk.{statement}
 use Rattle.critical.proofs.putback.walk.Reads as walk
 use Rattle.critical.proofs.putback.walk.Kinds as walk-kinds
 use Rattle.critical.proofs.putback.+walk.Lts-walk as walk-lts
-use Rattle.critical.proofs.masks.bit.Reads as bit-reads
+use Rattle.masks.proofs.bit.Reads as bit-reads
 use Rattle.critical.proofs.quantile.critical_value.Reads as critical-reads
 use Rattle.critical.proofs.putback.+walk.Tie.{close}
 
@@ -29,7 +30,7 @@ abbrev calls : ℕ → walk-lts.Claims
 calls t = (critical-reads.Asked, critical-reads.Learnt, bit-reads.Asked, bit-reads.Learnt, walk-below t, walk.Post)
 
 walk-critical-value-requires : (t : ℕ) → walk-lts.Need-critical-value-requires (calls t) (walk-at t) walk.Post
-walk-critical-value-requires t c κs = let q = c .before .before .before .before .pre .1 in (q .0, q .1, leaf-held (q .3) (c .before .if1 .taken), q .2)
+walk-critical-value-requires t c κs = let q = c .before .before .before .before .pre .1 in (q .0, q .1, omega (arith, q .4, c .before .if1 .taken), q .2)
 
 walk-same-length : (t : ℕ) → walk-lts.Need-same-length (calls t) (walk-at t) walk.Post
 walk-same-length t c = search needs
@@ -47,10 +48,10 @@ walk-returns-3 : (t : ℕ) → walk-lts.Need-returns-3 (calls t) (walk-at t) wal
 walk-returns-3 t c = (none-value _ _ _ _ _ _ _ _ _ (c .before .if1 .left) (c .if3 .taken), refl)
 
 walk-bit-requires : (t : ℕ) → walk-lts.Need-bit-requires (calls t) (walk-at t) walk.Post
-walk-bit-requires t c κs = let q = c .before .before .before .before .before .pre .1 in omega (arith, before-end _ _ _ _ _ _ (q .3) (c .before .if3 .left), q .0 .cols-most)
+walk-bit-requires t c κs = let q = c .before .before .before .before .before .pre .1 in omega (arith, before-end (q .3) (c .before .if3 .left), q .0 .cols-most)
 
 walk-add-chosen : (t : ℕ) → walk-lts.Need-add-chosen (calls t) (walk-at t) walk.Post
-walk-add-chosen t c = let q = c .before .before .before .before .before .before .pre .1 in record { fits = chosen-fits _ _ _ _ _ _ (q .3) (c .before .before .if3 .left) (c .before .if4 .taken) (q .0 .cols-most) _ (c .bit .ensures) }
+walk-add-chosen t c = let q = c .before .before .before .before .before .before .pre .1 in record { fits = chosen-fits (q .3) (c .before .before .if3 .left) (c .before .if4 .taken) (q .0 .cols-most) _ (c .bit .ensures) }
 
 walk-add-walk : (t : ℕ) → walk-lts.Need-add-walk (calls t) (walk-at t) walk.Post
 walk-add-walk t c = search needs
@@ -59,13 +60,13 @@ walk-sub-walk : (t : ℕ) → walk-lts.Need-sub-walk (calls t) (walk-at t) walk.
 walk-sub-walk t c = search needs
 
 walk-walk-requires : (t : ℕ) → walk-lts.Need-walk-requires (calls t) (walk-at t) walk.Post
-walk-walk-requires t c κs = let q = c .before .before .before .before .before .before .before .pre .1 in (half-falls _ (c .before .before .before .if3 .left) (c .before .before .before .before .before .before .before .pre .0), (q .0, q .1, q .2, walk-in _ _ _ _ _ _ (q .3) (c .before .before .before .if3 .left) (c .before .before .if4 .taken) _ (c .before .bit .ensures) (c .before .before .before .before .if1 .left)))
+walk-walk-requires t c κs = let q = c .before .before .before .before .before .before .before .pre .1 in let i = c .before .before .before .if3 .left in (half-falls _ i (c .before .before .before .before .before .before .before .pre .0), (q .0, q .1, q .2, walk-in (q .3) i (c .before .before .if4 .taken) _ (c .before .bit .ensures), omega (arith, q .4, c .before .before .before .before .if1 .left, chosen-size (q .3) i (c .before .before .if4 .taken) _ (c .before .bit .ensures))))
 
 walk-add-walk-2 : (t : ℕ) → walk-lts.Need-add-walk-2 (calls t) (walk-at t) walk.Post
 walk-add-walk-2 t c = search needs
 
 walk-walk-requires-2 : (t : ℕ) → walk-lts.Need-walk-requires-2 (calls t) (walk-at t) walk.Post
-walk-walk-requires-2 t c κs = let w = c .before .before .before in let q = w .before .before .before .before .before .before .before .before .pre .1 in (half-falls _ (w .before .before .before .before .if3 .left) (w .before .before .before .before .before .before .before .before .pre .0), (q .0, omega (arith, w .walk .kept .1 .0, q .1), q .2, walk-past _ _ _ _ _ _ (q .3) (w .before .before .before .before .if3 .left)))
+walk-walk-requires-2 t c κs = let w = c .before .before .before in let q = w .before .before .before .before .before .before .before .before .pre .1 in (half-falls _ (w .before .before .before .before .if3 .left) (w .before .before .before .before .before .before .before .before .pre .0), (q .0, omega (arith, w .walk .kept .1 .0, q .1), q .2, walk-past (q .3) (w .before .before .before .before .if3 .left), q .4))
 
 walk-same-length-3 : (t : ℕ) → walk-lts.Need-same-length-3 (calls t) (walk-at t) walk.Post
 walk-same-length-3 t c = search needs
@@ -76,7 +77,7 @@ walk-returns-4 t c =
     let w = v .before .before .before .before in
     let q = w .before .before .before .before .before .before .before .before .pre .1 in
     let i = w .before .before .before .before .if3 .left in (
-      v .walk2 .ensures .0 ∙ in-value _ _ _ _ _ _ _ _ (before-end _ _ _ _ _ _ (q .3) i) _ _ _ (w .before .before .before .before .before .if1 .left) (w .before .before .before .if4 .taken) (chosen-columns _ _ _ _ _ _ (q .3) i (w .before .before .before .if4 .taken) _ (w .before .before .bit .ensures)) (w .walk .ensures .0),
+      v .walk2 .ensures .0 ∙ in-value _ _ _ _ _ _ _ _ _ (before-end (q .3) i) (w .before .before .before .before .before .if1 .left) _ _ (w .before .before .before .if4 .taken) (chosen-columns (q .3) i (w .before .before .before .if4 .taken) _ (w .before .before .bit .ensures)) (w .walk .ensures .0),
       v .walk2 .ensures .1 ∙ w .walk .ensures .1,
     )
 
@@ -84,7 +85,7 @@ walk-add-walk-3 : (t : ℕ) → walk-lts.Need-add-walk-3 (calls t) (walk-at t) w
 walk-add-walk-3 t c = search needs
 
 walk-walk-requires-3 : (t : ℕ) → walk-lts.Need-walk-requires-3 (calls t) (walk-at t) walk.Post
-walk-walk-requires-3 t c κs = let q = c .before .before .before .before .before .before .pre .1 in (half-falls _ (c .before .before .if3 .left) (c .before .before .before .before .before .before .pre .0), (q .0, q .1, q .2, walk-past _ _ _ _ _ _ (q .3) (c .before .before .if3 .left)))
+walk-walk-requires-3 t c κs = let q = c .before .before .before .before .before .before .pre .1 in (half-falls _ (c .before .before .if3 .left) (c .before .before .before .before .before .before .pre .0), (q .0, q .1, q .2, walk-past (q .3) (c .before .before .if3 .left), q .4))
 
 walk-same-length-4 : (t : ℕ) → walk-lts.Need-same-length-4 (calls t) (walk-at t) walk.Post
 walk-same-length-4 t c = search needs
@@ -94,7 +95,7 @@ walk-returns-5 t c =
     let v = c .before .before in
     let q = v .before .before .before .before .before .before .before .pre .1 in
     let i = v .before .before .before .if3 .left in
-    (v .walk3 .ensures .0 ∙ past-value _ _ _ _ _ _ _ _ (before-end _ _ _ _ _ _ (q .3) i) _ (v .before .before .before .before .if1 .left) (v .before .before .if4 .left), v .walk3 .ensures .1)
+    (v .walk3 .ensures .0 ∙ past-value _ _ _ _ _ _ _ _ _ (before-end (q .3) i) (v .before .before .before .before .if1 .left) (v .before .before .if4 .left), v .walk3 .ensures .1)
 
 pub +walk-spec : {M : Type 1} → statement M
 +walk-spec = close μ-walk λ t. walk-lts.spec (calls t) (walk-at t) walk.Post

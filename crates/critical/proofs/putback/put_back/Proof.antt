@@ -11,7 +11,7 @@ float-from-bits-low c = search needs
 
 returns : tie.Need-returns
 unfolding ofBits
-returns c = let w = c .before .before in let q = w .before .before .before .before .before .pre in (put-back-value _ _ _ _ _ _ _ (q .0) (q .4) (w .walk .ensures .0), w .walk .ensures .1)
+returns c = let w = c .before .before in let q = w .before .before .before .before .before .pre in (put-back-value _ _ _ _ _ _ _ (q .0) (q .5) (w .walk .ensures .0), w .walk .ensures .1)
 
 pub put-back-spec : {M : Type 1} → statement M
 put-back-spec =

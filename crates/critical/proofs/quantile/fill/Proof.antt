@@ -4,8 +4,9 @@ use Rattle.order.proofs.Lists.{part-rows}
 use Rattle.refusals.proofs.Buffers.{filled, filled-start}
 use Rattle.columns.specs.Columns.{size, columnsOf}
 use Rattle.method.specs.Method.{kMax}
-use Rattle.critical.specs.Internal.{CheckedTable}
-use Rattle.critical.proofs.TableRows.{rows-end, start-fits, part-finite, row-held, row-turn}
+use Rattle.masks.specs.Internal.{CheckedTable}
+use Rattle.masks.proofs.Parts.{start-fits, part-finite}
+use Rattle.critical.proofs.TableRows.{rows-end, row-held, row-turn}
 use lib.ListN.{length, length-set}
 use mathlib.Core.Path.{_≡_, refl}
 use native.Mathlib.Omega.{arith}

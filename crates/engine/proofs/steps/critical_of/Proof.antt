@@ -1,5 +1,5 @@
 -- `critical_of` meets its contract: step 1 looks at the live columns, a later one at those left with k - 1 rejected ones put back.
-use Rattle.engine.proofs.OneStep.{rejected-under, critical-start, critical-next, walk-start, put-held}
+use Rattle.engine.proofs.OneStep.{rejected-under, critical-start, critical-next, walk-start, walk-held, put-held}
 use borrow.Author.Needs.{needs}
 use Rattle.engine.proofs.steps.critical_of.Statement.{statement}
 use Rattle.engine.proofs.steps.critical_of.Tie as tie
@@ -14,7 +14,7 @@ sub-put-back : tie.Need-sub-put-back
 sub-put-back c = let q = c .before .before .before .before .before .before .pre in rejected-under _ _ (q .0)
 
 put-back-requires : tie.Need-put-back-requires
-put-back-requires c κs = let q = c .before .before .before .before .before .before .pre in (q .0 .ready, q .1, q .0 .rare, walk-start _ _ (q .0), put-held _ _ (q .0) (c .before .before .if1 .left))
+put-back-requires c κs = let q = c .before .before .before .before .before .before .pre in (q .0 .ready, q .1, q .0 .rare, walk-start _ _ (q .0), walk-held _ _ (q .0), put-held _ _ (q .0) (c .before .before .if1 .left))
 
 returns-2 : tie.Need-returns-2
 returns-2 c = let v = c .before .before in let q = v .before .before .before .before .before .before .before .pre in (critical-next _ _ (q .0) _ (v .before .before .before .if1 .left) (v .put-back .ensures .0), v .put-back .ensures .1)

@@ -1,6 +1,6 @@
 -- `step` meets its contract.
 use Rattle.order.proofs.Lists.{part-rows}
-use Rattle.critical.proofs.TableRows.{start-fits, part-row, part-narrow, mask-fits}
+use Rattle.masks.proofs.Parts.{start-fits, part-row, part-narrow, mask-fits}
 use Rattle.engine.proofs.OneStep.{rejected-under, new-fits, step-is}
 use native.Mathlib.Omega.{arith}
 use borrow.Author.Needs.{needs}

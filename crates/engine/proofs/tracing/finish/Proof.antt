@@ -1,7 +1,7 @@
 -- `finish` meets its contract. The invariant: the first j columns have their verdicts and counts.
 use Rattle.order.proofs.Lists.{part-rows}
-use Rattle.critical.specs.Internal.{CheckedTable}
-use Rattle.critical.proofs.TableRows.{start-fits}
+use Rattle.masks.specs.Internal.{CheckedTable}
+use Rattle.masks.proofs.Parts.{start-fits}
 use Rattle.engine.specs.Internal.{Traced}
 use Rattle.engine.proofs.FullRuns.{partialRun, partial-start, partial-turn, partial-end}
 use Prim.Native.Nat.{_≤_, _<_, _-_}

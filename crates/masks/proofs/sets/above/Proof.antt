@@ -1,14 +1,14 @@
 -- `above` meets its contract. The invariant: what is marked and what is still to be marked make the whole.
 use Rattle.columns.specs.Columns.{columnsOf, maskOf, over, _∩_}
-use Rattle.critical.proofs.MaskScan.{aboveFrom, above-start, above-in, above-past, above-done, above-fits, above-room, above-keep}
+use Rattle.masks.proofs.MaskScan.{aboveFrom, above-start, above-in, above-past, above-done, above-fits, above-room, above-keep}
 use lib.ListN.{length}
 use mathlib.Core.Logic.{⊎-elim}
 use Prim.Native.Nat.{_≤_, _<_, _+_, _-_, _*_, _^_}
 use native.Mathlib.Omega.{arith}
 use mathlib.Core.Path.{_≡_, sym, _∙_}
 use borrow.Author.Needs.{needs}
-use Rattle.critical.proofs.masks.above.Statement.{statement}
-use Rattle.critical.proofs.masks.above.Tie as tie
+use Rattle.masks.proofs.sets.above.Statement.{statement}
+use Rattle.masks.proofs.sets.above.Tie as tie
 
 abbrev Inv-loop : tie.InvT-loop
 Inv-loop row set v m₀ s₀ i₀ m s i = (i ≤ length row) × (length row ≤ 32) × (m < 2 ^ i) × (m + 2 ^ i * aboveFrom row i s v ≡ maskOf (columnsOf (length row) set ∩ over v row))

@@ -1,12 +1,12 @@
 -- `full_mask` meets its contract.
-use Rattle.critical.proofs.MaskScan.{full-32}
+use Rattle.masks.proofs.MaskScan.{full-32}
 use lib.Pow.{pow-pos}
 use native.Mathlib.Omega.{arith}
 use Prim.Native.Nat.{_-_}
 use mathlib.Core.Path.{ap}
 use borrow.Author.Needs.{needs}
-use Rattle.critical.proofs.masks.full_mask.Statement.{statement}
-use Rattle.critical.proofs.masks.full_mask.Tie as tie
+use Rattle.masks.proofs.sets.full_mask.Statement.{statement}
+use Rattle.masks.proofs.sets.full_mask.Tie as tie
 
 returns : tie.Need-returns
 returns c = full-32 _ (c .if1 .taken)

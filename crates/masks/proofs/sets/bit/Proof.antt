@@ -4,8 +4,8 @@ use native.Mathlib.Nat.{one-mul, mod-eq-of-lt}
 use mathlib.Core.Path.{_≡_}
 use Prim.Native.Nat.{ℕ, _<_, _*_, _%_, _^_}
 use borrow.Author.Needs.{needs}
-use Rattle.critical.proofs.masks.bit.Statement.{statement}
-use Rattle.critical.proofs.masks.bit.Tie as tie
+use Rattle.masks.proofs.sets.bit.Statement.{statement}
+use Rattle.masks.proofs.sets.bit.Tie as tie
 
 bit-is : (j : ℕ) → j < 32 → 1 * 2 ^ j % 4294967296 ≡ 2 ^ j
 bit-is j h = rw one-mul (mod-eq-of-lt {m = 2 ^ 32} (pow-lt h))

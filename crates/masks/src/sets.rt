@@ -8,7 +8,7 @@ ghost use Rattle.order.specs.Order.{smaller};
 ghost use Rattle.columns.specs.Columns.{size, columnsOf, maskOf, over, _∩_, fullMask};
 
 // Column j alone.
-pub(crate) fn bit(j: usize) -> u32
+pub fn bit(j: usize) -> u32
     requires { ⌜ j < 32 ⌝ }
     ensures { λ r. ⌜ r ≡ 2 ^ j ⌝ }
 {

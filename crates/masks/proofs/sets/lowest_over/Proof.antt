@@ -1,7 +1,7 @@
 -- `lowest_over` meets its contract.
 use borrow.Author.Tests.{eq-eqb, ne-eqb}
-use Rattle.critical.proofs.masks.lowest_over.Statement.{statement}
-use Rattle.critical.proofs.masks.lowest_over.Tie as tie
+use Rattle.masks.proofs.sets.lowest_over.Statement.{statement}
+use Rattle.masks.proofs.sets.lowest_over.Tie as tie
 
 returns : tie.Need-returns
 returns c = simp (eq-eqb _ _ (c .if1 .taken))

@@ -1,13 +1,13 @@
 -- `size_of` meets its contract. The invariant: what is counted and what is still to be counted make the whole.
 use Rattle.columns.specs.Columns.{size, columnsOf}
-use Rattle.critical.proofs.MaskScan.{size-start, size-in, size-past, size-done}
+use Rattle.masks.proofs.MaskScan.{size-start, size-in, size-past, size-done}
 use mathlib.Core.Logic.{⊎-elim}
 use Prim.Native.Nat.{_≤_, _+_, _-_}
 use native.Mathlib.Omega.{arith}
 use mathlib.Core.Path.{_≡_}
 use borrow.Author.Needs.{needs}
-use Rattle.critical.proofs.masks.size_of.Statement.{statement}
-use Rattle.critical.proofs.masks.size_of.Tie as tie
+use Rattle.masks.proofs.sets.size_of.Statement.{statement}
+use Rattle.masks.proofs.sets.size_of.Tie as tie
 
 abbrev Inv-loop : tie.InvT-loop
 Inv-loop cols set n₀ s₀ i₀ n s i = (i ≤ cols) × (n ≤ i) × (n + size (columnsOf (cols - i) s) ≡ size (columnsOf cols set))

@@ -1,0 +1,6 @@
+pub mod MaskScan
+pub mod Parts
+pub mod Walks
+pub mod SetSizes
+pub mod Marks
+pub mod Marking

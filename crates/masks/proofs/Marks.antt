@@ -1,0 +1,102 @@
+-- What the marks of a table's rows tell of a set of columns.
+--   marks-counted      how many rows have k columns of K that pass the test
+--   holding-columns    a set as a mask, and as a Bool for each column
+--   holding-fewer      with up to j columns more, at most as many rows hold k as now hold k - j
+--   holding-length     at most all
+use Prim.Native.Nat.{ℕ, _+_, _-_, _^_, _≤_, _<_}
+use native.Mathlib.Omega.{arith}
+use mathlib.Core.Path.{_≡_, refl, sym, ap, ap₂, _∙_}
+use mathlib.Core.Bool.{Bool, true, false, cond, _&&_, _||_}
+use mathlib.Core.List.{List, [], _∷_, map, zipWith}
+use lib.ListN.{length, length-map}
+use lib.Dec.{T, leb, leb→le, le→leb}
+use lib.Ieee.{Float}
+use Rattle.order.specs.Counting.{bit, count, all}
+use Rattle.order.proofs.Booleans.{and-left, and-right, T-false, never}
+use Rattle.order.proofs.Counts.{count-le-all, count-same-all, count-length}
+use Rattle.order.proofs.Rows.{Sound, soundRow, sound-length}
+use Rattle.columns.specs.Columns.{Columns, size, _∩_, _∪_, columnsOf}
+use Rattle.columns.proofs.Sets.{length-∪}
+use Rattle.columns.proofs.Masks.{columnsOf-length, columnsOf-maskOf}
+use Rattle.columns.proofs.PutBack.{meet-size}
+use Rattle.masks.specs.Marks.{markOf, holds, holding, those, marksOf, holdingColumns}
+use Rattle.masks.proofs.SetSizes.{size-mask, and-size}
+
+-- ---- one row
+
+and-swap : (a b : Bool) → (a && b) ≡ (b && a)
+and-swap true true = refl
+and-swap true false = refl
+and-swap false true = refl
+and-swap false false = refl
+
+meet-swap : (K L : Columns) → K ∩ L ≡ L ∩ K
+unfolding _∩_ zipWith
+meet-swap [] [] = refl
+meet-swap [] (b ∷ L) = refl
+meet-swap (a ∷ K) [] = refl
+meet-swap (a ∷ K) (b ∷ L) = ap₂ (λ (c : Bool) (M : Columns). c ∷ M) (and-swap a b) (meet-swap K L)
+
+module _ (n k : ℕ) (p : Float → Bool) (h : n ≤ 32) (K : Columns) (e : length K ≡ n) (row : List Float) (f : length row ≡ n) where
+  wide : length (map p row) ≡ n
+  wide = length-map row p ∙ f
+
+  row-meets : columnsOf (length K) (markOf p row) ∩ K ≡ K ∩ map p row
+  row-meets = meet-swap (columnsOf (length K) (markOf p row)) K ∙ ap (λ (L : Columns). K ∩ L) (ap (λ (i : ℕ). columnsOf i (markOf p row)) (e ∙ sym wide) ∙ columnsOf-maskOf (map p row))
+
+  -- a row with too few columns for any set
+  row-never : leb k (size (columnsOf 32 (markOf p row))) ≡ false → leb k (size (K ∩ map p row)) ≡ false
+  row-never q = T-false (leb k (size (K ∩ map p row))) (λ t. never (leb k (size (columnsOf 32 (markOf p row)))) q
+      (le→leb k (size (columnsOf 32 (markOf p row))) (omega (arith, leb→le k (size (K ∩ map p row)) t, meet-size K (map p row), size-mask 32 (map p row) (omega (arith, wide))))))
+
+-- ---- all rows
+
+module _ (n k : ℕ) (p : Float → Bool) where
+  pub marks-counted : (X : List (List Float)) → Sound n X → n ≤ 32 → (K : Columns) → length K ≡ n → holdingColumns k K (marksOf k p X) ≡ count (λ row. leb k (size (K ∩ map p row))) X
+  unfolding holdingColumns marksOf those count all
+  marks-counted [] s h K e = refl
+  marks-counted (row ∷ X) s h K e = go (leb k (size (columnsOf 32 (markOf p row)))) refl (marks-counted X (and-right (soundRow n row) (all (soundRow n) X) s) h K e)
+    where
+      f : length row ≡ n
+      f = sound-length n row (and-left (soundRow n row) (all (soundRow n) X) s)
+
+      go : (b : Bool) → leb k (size (columnsOf 32 (markOf p row))) ≡ b → holdingColumns k K (marksOf k p X) ≡ count (λ row. leb k (size (K ∩ map p row))) X
+          → holdingColumns k K (cond b (markOf p row ∷ marksOf k p X) (marksOf k p X)) ≡ bit (leb k (size (K ∩ map p row))) + count (λ row. leb k (size (K ∩ map p row))) X
+      go true q ih = ap₂ (λ (x y : ℕ). x + y) (ap (λ (L : Columns). bit (leb k (size L))) (row-meets n k p h K e row f)) ih
+      go false q ih = omega (arith, ih, ap bit (row-never n k p h K e row f q))
+
+-- ---- sets
+
+pub holding-columns : (n k s : ℕ) (ms : List ℕ) → n ≤ 32 → s < 2 ^ n → holding k s ms ≡ holdingColumns k (columnsOf n s) ms
+unfolding holding holdingColumns
+holding-columns n k s ms h l = count-same-all (holds k s) (λ m. leb k (size (columnsOf (length (columnsOf n s)) m ∩ columnsOf n s))) ms
+    (λ m. ap (leb k) (and-size 32 n m s h l ∙ ap (λ (i : ℕ). size (columnsOf i m ∩ columnsOf n s)) (sym (columnsOf-length n s))))
+
+-- what K with I has of a set, K has or I
+meet-join : (M K I : Columns) → length I ≡ length K → size (M ∩ (K ∪ I)) ≤ size (M ∩ K) + size I
+unfolding size count _∩_ _∪_ zipWith
+meet-join [] K I h = omega arith
+meet-join (a ∷ M) [] I h = omega arith
+meet-join (a ∷ M) (b ∷ K) [] h = absurd (omega arith)
+meet-join (a ∷ M) (b ∷ K) (c ∷ I) h = omega (arith, one a b c, meet-join M K I (omega arith))
+  where
+    one : (a b c : Bool) → bit (a && (b || c)) ≤ bit (a && b) + bit c
+    one true true c = omega arith
+    one true false c = omega arith
+    one false b c = omega arith
+
+pub holding-fewer : (k j : ℕ) (K I : Columns) (ms : List ℕ) → length I ≡ length K → size I ≤ j → holdingColumns k (K ∪ I) ms ≤ holdingColumns (k - j) K ms
+unfolding holdingColumns
+holding-fewer k j K I ms e h = count-le-all (λ m. leb k (size (columnsOf (length (K ∪ I)) m ∩ (K ∪ I)))) (λ m. leb (k - j) (size (columnsOf (length K) m ∩ K))) ms more
+  where
+    more : (m : ℕ) → T (leb k (size (columnsOf (length (K ∪ I)) m ∩ (K ∪ I)))) → T (leb (k - j) (size (columnsOf (length K) m ∩ K)))
+    more m t = le→leb (k - j) (size (columnsOf (length K) m ∩ K)) (omega (
+      arith,
+      leb→le k (size (columnsOf (length (K ∪ I)) m ∩ (K ∪ I))) t,
+      ap (λ (i : ℕ). size (columnsOf i m ∩ (K ∪ I))) (length-∪ K I (sym e)),
+      meet-join (columnsOf (length K) m) K I e,
+    ))
+
+pub holding-length : (k s : ℕ) (ms : List ℕ) → holding k s ms ≤ length ms
+unfolding holding
+holding-length k s ms = count-length (holds k s) ms
