@@ -14,7 +14,7 @@ use Rattle.order.proofs.Rows.{Finite, Sound, rowsOf-sound}
 use Rattle.refusals.specs.Answers.{firstRefusal}
 use Rattle.refusals.specs.Buffers.{tooShort}
 use Rattle.refusals.proofs.Answers.{none-holds, both-pass}
-use Rattle.critical.specs.Internal.{CheckedTable}
+use Rattle.masks.specs.Internal.{CheckedTable}
 use Rattle.stepdown.specs.Refusals.{tableRefusal}
 use Rattle.stepdown.proofs.Accepted.{Shape, shape, checked, full-length, all-finite}
 use Rattle.stepdown.proofs.Accepted as tables

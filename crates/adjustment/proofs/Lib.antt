@@ -9,3 +9,6 @@ pub mod Tables
 pub mod Scan
 pub mod PutBackCounts
 pub mod Stored
+pub mod NeededMarks
+pub mod Midway
+pub mod FigureCalls

@@ -29,7 +29,7 @@ pub fn refused(number: u32) -> Adjusted
 }
 
 // The figure of each column of a table. No level is taken; the work buffer then holds plus zero.
-pub fn figures(
+pub fn adjusted_figures(
     table: &[f64],
     work: &mut [f64],
     rows: usize,

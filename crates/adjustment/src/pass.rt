@@ -41,14 +41,14 @@ fn down(
     let mut figures = unrejected(rows, columns);
     let from = observed * columns;
     let to = from + columns;
-    let mut left = live;
+    let mut passed: u32 = 0;
     let mut figure: usize = 0;
-    while left != 0 {
-        let i = top::top_column(&table[from..to], left);
+    while passed != live {
+        let i = top::top_column(&table[from..to], live - passed);
         let n = masks::mark(table, &mut marks, rows, columns, k, table[from + i]);
-        figure = counting::needed(&marks[..n], columns, k, live, live - left, figure);
+        figure = counting::needed(&marks[..n], columns, k, live, passed, figure);
         figures[i] = figure;
-        left -= masks::bit(i);
+        passed += masks::bit(i);
     }
     figures
 }

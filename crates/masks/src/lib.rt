@@ -8,4 +8,5 @@ pub use rows::mark;
 pub use sets::above;
 pub use sets::bit;
 pub use sets::full_mask;
+pub use sets::lowest_over;
 pub use sets::size_of;

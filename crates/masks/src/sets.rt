@@ -44,7 +44,7 @@ pub fn size_of(cols: usize, set: u32) -> usize
 }
 
 // Whether the lowest column is in the set and its value is larger than v.
-fn lowest_over(s: u32, v: f64, x: f64) -> bool
+pub fn lowest_over(s: u32, v: f64, x: f64) -> bool
     ensures { λ r. ⌜ r ≡ (eqb (s % 2) 1 && smaller v x) ⌝ }
 {
     if s % 2 == 1 {
