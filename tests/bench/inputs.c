@@ -52,7 +52,7 @@ static int by_value(const void *x, const void *y)
     return (a > b) - (a < b);
 }
 
-/* With j columns passed, rows have 4 values that reach the next one among those left and 3 put back: ever more rows do. */
+/* With j columns passed, ever more rows have 4 values that reach the next one, among those left and 3 put back. */
 static void make_slope(const struct recipe *r, double *values)
 {
     double *sorted = allocate(r->rows * sizeof *sorted), columns = (double)r->columns;
