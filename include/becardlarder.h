@@ -1,5 +1,6 @@
 /*
- * Becardlarder for hosts written in C: which offers are rejected, by an exact randomization test with the stepdown method.
+ * Becardlarder for hosts written in C: which offers are rejected, by an exact randomization test with the stepdown method,
+ * and the adjusted figure of each offer: the least allowance at which it would be.
  *
  * Link with libhost.a and the C library, on x86-64 Linux. The functions are proved to return, to read and write nothing
  * but what is said here, and to answer what their definitions give. In return each pointer has to reach as many places
@@ -9,8 +10,8 @@
  * Threads: the functions keep no state and allocate nothing. Any number of threads may call them at the same time, each
  * with buffers of its own.
  *
- * Answers: below 100 the answer is the number of rejected offers. Above 100 it is 100 plus one of these refusal numbers,
- * and nothing has been written:
+ * Answers: below 100 the answer is the number of rejected offers; of the calls for adjusted figures it is 0. Above 100 it
+ * is 100 plus one of these refusal numbers, and nothing has been written:
  *
  *    1  the file is empty, its length is not a multiple of 4 bytes, or it is above BECARDLARDER_LONGEST_FILE
  *    2  a word of the file is missing, or of another kind than its place needs
@@ -83,6 +84,40 @@ uint32_t becardlarder_trial_verdicts(const uint8_t *file, size_t file_len, uint8
 uint32_t becardlarder_table_verdicts(const double *table, size_t table_len, size_t rows, size_t columns, size_t k,
                                      size_t a, size_t b, size_t observed, double *work, size_t work_len,
                                      uint8_t *verdicts, size_t verdicts_len);
+
+/*
+ * Reads a trial file and works out the adjusted figure of each offer: the least e from 0 to M - 1 at which the method
+ * rejects it, or M if none does. M is the number of rows of the trial's table, and e how many of them may lie above a
+ * critical value: at a level a/b it is M times a/b, rounded down.
+ *
+ * Returns 0. figures[i] is then the figure of offer i (in file order, from 0), and *rows is M; places beyond the offers
+ * are unchanged. `figures` needs a place for each offer: BECARDLARDER_MOST_OFFERS places are always enough. `rows` points
+ * to one place.
+ *
+ * Refusals: those of becardlarder_trial_verdicts, in the same order; the trial's level is checked, and has no part in the
+ * figures. Where the call is refused `figures` and *rows are unchanged.
+ *
+ * Stack: less than 112 KB.
+ */
+uint32_t becardlarder_trial_adjusted(const uint8_t *file, size_t file_len, uint32_t *figures, size_t figures_len,
+                                     uint32_t *rows);
+
+/*
+ * Works out the adjusted figure of each column of a table, which is as for becardlarder_table_verdicts. No level is taken.
+ *
+ * Returns 0. figures[j] is then the least e from 0 to rows - 1 at which the method rejects column j, or `rows` if none
+ * does, and the first `rows` places of work hold plus zero; places beyond are unchanged in both. The buffers need a place
+ * for each column and a value for each row.
+ *
+ * Refusals: 4, 9, 10, 11, then 12 for either buffer. Where the call is refused both buffers are unchanged.
+ *
+ * Values compare as for becardlarder_table_verdicts.
+ *
+ * Stack: less than 32 KB.
+ */
+uint32_t becardlarder_table_adjusted(const double *table, size_t table_len, size_t rows, size_t columns, size_t k,
+                                     size_t observed, double *work, size_t work_len, uint32_t *figures,
+                                     size_t figures_len);
 
 #ifdef __cplusplus
 }

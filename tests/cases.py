@@ -7,6 +7,7 @@ those that only the tests from C take, which store nothing.
 
 import random
 
+from generators.adjusted import adjusted_cases
 from generators.examples import example_cases
 from generators.files import file_cases, further_file_cases
 from generators.records import record_cases
@@ -25,12 +26,13 @@ FAMILIES = {
     "walk": walk_cases,
     "look": look_cases,
 }
-FURTHER = {"file": further_file_cases, "table": further_table_cases}
+FURTHER = {"file": further_file_cases, "table": further_table_cases, "adjusted": adjusted_cases}
+EVERY_FAMILY = (*FAMILIES, *(family for family in FURTHER if family not in FAMILIES))
 
 
 def cases_of(family: str):
-    """The stored cases of one family, in order."""
-    return FAMILIES[family](random.Random(f"{SEED}/{family}"))
+    """The stored cases of one family, in order; some have none."""
+    return FAMILIES[family](random.Random(f"{SEED}/{family}")) if family in FAMILIES else ()
 
 
 def every_case_of(family: str):
@@ -47,6 +49,6 @@ def all_cases():
 
 
 if __name__ == "__main__":
-    for family in FAMILIES:
+    for family in EVERY_FAMILY:
         stored = sum(1 for _ in cases_of(family))
         print(family, stored, sum(1 for _ in every_case_of(family)) - stored)

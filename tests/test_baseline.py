@@ -16,9 +16,10 @@ from pathlib import Path
 
 from cases import cases_of, every_case_of
 from expected import MARK
+from generators.kinds import TableCase
 from reference import ccall, report, table, trialfile
 from reference.refusals import Refused
-from reference.trial import Trial, full_run
+from reference.trial import Trial, full_run, rows_of, table_of
 
 HERE = Path(__file__).resolve().parent
 FLAGS = ("-std=c11", "-Wall", "-Wextra", "-Werror", "-O3", "-shared", "-fPIC")
@@ -133,6 +134,43 @@ class Tables(unittest.TestCase):
                                  (0, MARK) if answer > 100 else (1, answer), case.name)
                 self.assertEqual(list(work), expected_work + [float(MARK)] * GUARD, case.name)
                 self.assertEqual(bytes(lent), bytes(buffer) + bytes([MARK]) * GUARD, case.name)
+
+
+class Adjusted(unittest.TestCase):
+    """Adjusted figures, in both ways."""
+
+    def check(self, call, case, room: int) -> int:
+        """A way's answer to a table case with room for so many figures; the reference's result."""
+        expected_work, expected = [float(MARK)] * case.work_room, [MARK] * room
+        answer = ccall.adjusted_on_table(case.values, case.rows, case.columns, case.k,
+                                         case.observed, expected_work, expected)
+        work, lent = marked(c_double, case.work_room), marked(c_uint32, room)
+        accepted = call(byref(lent_table(case, work)), lent, c_size_t(room))
+        self.assertEqual(accepted, answer == 0, case.name)
+        self.assertEqual(list(lent), expected + [MARK] * GUARD, case.name)
+        self.assertEqual(list(work), expected_work + [float(MARK)] * GUARD, case.name)
+        return answer
+
+    def test_tables(self):
+        for call in (baseline.figures_of_table, baseline.figures_by_maxima):
+            results = set()
+            for case in every_case_of("adjusted"):
+                needed = min(case.columns, 40)
+                for room in {max(needed, 1) - 1, needed, needed + 2}:
+                    results.add(self.check(call, case, room))
+            self.assertEqual(results, {0, 104, 109, 110, 111, 112})
+
+    def test_trials(self):
+        """The tables of trials."""
+        for case in every_case_of("file"):
+            trial = trialfile.read(case.data)
+            if isinstance(trial, Refused) or trial.pairs > 6:
+                continue
+            rows = rows_of(trial)
+            lent = TableCase(case.name, tuple(table_of(trial)), rows, trial.offers, trial.k, 0, 0, 0,
+                             rows)
+            for call in (baseline.figures_of_table, baseline.figures_by_maxima):
+                self.check(call, lent, trial.offers)
 
 
 class Files(unittest.TestCase):

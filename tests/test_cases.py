@@ -3,7 +3,7 @@
 import unittest
 from collections import Counter
 
-from cases import FAMILIES, cases_of, every_case_of
+from cases import EVERY_FAMILY, cases_of, every_case_of
 from expected import expected
 from reference.refusals import Refused
 from reference.trialfile import read
@@ -26,11 +26,11 @@ def refusals(answer) -> set:
 
 class Cases(unittest.TestCase):
     def test_names_differ(self):
-        counts = Counter(case.name for family in FAMILIES for case in every_case_of(family))
+        counts = Counter(case.name for family in EVERY_FAMILY for case in every_case_of(family))
         self.assertEqual([name for name in counts if counts[name] > 1], [])
 
     def test_same_each_time(self):
-        for family in FAMILIES:
+        for family in EVERY_FAMILY:
             # Compared as text, since a value that is no number differs from itself.
             first, again = (repr(list(every_case_of(family))) for _ in range(2))
             self.assertEqual(first, again)

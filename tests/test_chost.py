@@ -24,7 +24,10 @@ ROOT = Path(__file__).resolve().parent.parent
 LIBRARY = ROOT / "target" / "staticlib" / "libhost.a"
 FLAGS = ("-Wall", "-Wextra", "-Werror", "-O2", "-I", ROOT / "include")
 GUARD = 8  # places beyond each lent buffer that the driver shows too
-FILE_STACK, TABLE_STACK = 96 * 1024, 16 * 1024  # bytes: what include/becardlarder.h promises
+FIGURE_MARK = int.from_bytes([MARK] * 4, "little")  # in a place for a figure, or for the rows
+# Bytes of stack: what include/becardlarder.h promises.
+FILE_STACK, TABLE_STACK = 96 * 1024, 16 * 1024
+FILE_ADJUSTED_STACK, TABLE_ADJUSTED_STACK = 112 * 1024, 32 * 1024
 
 _folder = tempfile.TemporaryDirectory()
 
@@ -73,6 +76,11 @@ def answers(driver: Path, calls):
     return found, int(done.stderr.split()[-1])
 
 
+def results(calls) -> set:
+    """The results that are expected."""
+    return {struct.unpack("<I", call.answer[:4])[0] for call in calls}
+
+
 def file_call(case, room: int) -> Call:
     """A file case with a buffer of so many bytes."""
     buffer = bytearray([MARK]) * room
@@ -91,16 +99,20 @@ def file_calls():
             yield file_call(case, room)
 
 
+def work_places(work) -> bytes:
+    """A work buffer and its guard, as the driver shows them."""
+    return struct.pack(f"<{len(work) + GUARD}d", *work, *[float(MARK)] * GUARD)
+
+
 def table_call(case, room: int, values=None) -> Call:
     """A table case with a verdict buffer of so many bytes; `values` are its values as bytes."""
     figures = (case.rows, case.columns, case.k, case.a, case.b, case.observed)
     work, buffer = [float(MARK)] * case.work_room, bytearray([MARK]) * room
     result = ccall.on_table(case.values, *figures, work, buffer)
-    places = struct.pack(f"<{len(work) + GUARD}d", *work, *[float(MARK)] * GUARD)
     return Call(f"{case.name}, buffer of {room}",
                 b"T" + struct.pack("<9Q", len(case.values), *figures, case.work_room, room)
                 + (values or struct.pack(f"<{len(case.values)}d", *case.values)),
-                struct.pack("<I", result) + places + buffer + bytes([MARK]) * GUARD)
+                struct.pack("<I", result) + work_places(work) + buffer + bytes([MARK]) * GUARD)
 
 
 def table_calls():
@@ -109,6 +121,50 @@ def table_calls():
         needed = min(case.columns, 40)
         for room in sorted({0, max(needed, 1) - 1, needed, needed + 3}):
             yield table_call(case, room)
+
+
+def figure_places(figures) -> bytes:
+    """A buffer of figures and its guard, as the driver shows them."""
+    return struct.pack(f"<{len(figures) + GUARD}I", *figures, *[FIGURE_MARK] * GUARD)
+
+
+def file_adjusted_call(case, room: int) -> Call:
+    """A file case with a buffer of so many figures."""
+    figures, rows = [FIGURE_MARK] * room, [FIGURE_MARK]
+    result = ccall.adjusted_on_file(case.data, figures, rows)
+    return Call(f"{case.name}, {room} figures",
+                b"G" + struct.pack("<2Q", len(case.data), room) + case.data,
+                struct.pack("<I", result) + figure_places(figures) + figure_places(rows))
+
+
+def file_adjusted_calls():
+    """Every file case, with buffers of no place, too short, exact and longer."""
+    for case in every_case_of("file"):
+        trial = read(case.data)
+        rooms = {16} if isinstance(trial, Refused) else {trial.offers - 1, trial.offers,
+                                                         trial.offers + 2}
+        for room in sorted({0} | rooms):
+            yield file_adjusted_call(case, room)
+
+
+def table_adjusted_call(case, room: int, values=None) -> Call:
+    """A table case with a buffer of so many figures; `values` are its values as bytes."""
+    given = (case.rows, case.columns, case.k, case.observed)
+    work, figures = [float(MARK)] * case.work_room, [FIGURE_MARK] * room
+    result = ccall.adjusted_on_table(case.values, *given, work, figures)
+    return Call(f"{case.name}, {room} figures",
+                b"A" + struct.pack("<7Q", len(case.values), *given, case.work_room, room)
+                + (values or struct.pack(f"<{len(case.values)}d", *case.values)),
+                struct.pack("<I", result) + work_places(work) + figure_places(figures))
+
+
+def table_adjusted_calls():
+    """Every table case for adjusted figures, with buffers of no place, too short, exact and longer."""
+    for case in every_case_of("adjusted"):
+        needed = min(case.columns, 40)
+        rooms = {0, max(needed, 1) - 1, needed, needed + 3} if len(case.values) < 4096 else {needed}
+        for room in sorted(rooms):
+            yield table_adjusted_call(case, room)
 
 
 # Bits of what is no finite number: the two infinities; signalling and quiet patterns of either sign,
@@ -121,7 +177,7 @@ QUIET = tuple(bits | 1 << 51 for bits in (*INFINITE, *SIGNALLING))
 LARGEST = (0x7FEF_FFFF_FFFF_FFFF, 0xFFEF_FFFF_FFFF_FFFF)
 
 
-def pattern_calls(patterns):
+def pattern_calls(patterns, call):
     """Each pattern in each place of a small table, and in some places of the largest one."""
     for bits in patterns:
         bad = struct.pack("<Q", bits)
@@ -134,7 +190,7 @@ def pattern_calls(patterns):
                 cells[place] = value
                 case = TableCase(f"{bits:x} at {place} of {rows}x{columns}", tuple(cells), rows,
                                  columns, 2, 1, 4, 0, rows)
-                yield table_call(case, columns, data)
+                yield call(case, columns, data)
 
 
 class Driver(unittest.TestCase):
@@ -151,24 +207,32 @@ class Driver(unittest.TestCase):
 
     def test_files(self):
         calls = list(file_calls())
-        results = {struct.unpack("<I", call.answer[:4])[0] for call in calls}
-        self.assertGreaterEqual(results, set(range(17)) | set(range(101, 109)) | {112})
+        self.assertGreaterEqual(results(calls), set(range(17)) | set(range(101, 109)) | {112})
         self.compare(calls, FILE_STACK)
 
     def test_tables(self):
         calls = list(table_calls())
-        results = {struct.unpack("<I", call.answer[:4])[0] for call in calls}
-        self.assertGreaterEqual(results, {*range(13), 32, 103, 104, 109, 110, 111, 112})
+        self.assertGreaterEqual(results(calls), {*range(13), 32, 103, 104, 109, 110, 111, 112})
         self.compare(calls, TABLE_STACK)
+
+    def test_adjusted_files(self):
+        calls = list(file_adjusted_calls())
+        self.assertEqual(results(calls), {0, *range(101, 109), 112})
+        self.compare(calls, FILE_ADJUSTED_STACK)
+
+    def test_adjusted_tables(self):
+        calls = list(table_adjusted_calls())
+        self.assertEqual(results(calls), {0, 104, 109, 110, 111, 112})
+        self.compare(calls, TABLE_ADJUSTED_STACK)
 
     def test_patterns(self):
         """What is no finite number is refused by 11, whatever its bits and its place."""
-        for patterns, refusal in ((INFINITE, True), (SIGNALLING, True), (QUIET, True),
-                                  (LARGEST, False)):
-            calls = list(pattern_calls(patterns))
-            results = {struct.unpack("<I", call.answer[:4])[0] for call in calls}
-            self.assertEqual(results == {111}, refusal)
-            self.compare(calls, TABLE_STACK)
+        for call, stack in ((table_call, TABLE_STACK), (table_adjusted_call, TABLE_ADJUSTED_STACK)):
+            for patterns, refusal in ((INFINITE, True), (SIGNALLING, True), (QUIET, True),
+                                      (LARGEST, False)):
+                calls = list(pattern_calls(patterns, call))
+                self.assertEqual(results(calls) == {111}, refusal)
+                self.compare(calls, stack)
 
 
 def sample_lines(data: bytes) -> str:

@@ -9,7 +9,7 @@ import unittest
 from dataclasses import replace
 from itertools import combinations
 
-from reference import ccall, method, report, run, table, trial, trialfile
+from reference import adjusted, ccall, method, report, run, sheet, table, trial, trialfile
 from reference.method import Record
 from reference.refusals import Refused
 from reference.table import Kept, Rejected
@@ -267,6 +267,128 @@ def random_table(rng, most_rows=8, most_columns=4):
     b = rng.randint(2, 20)
     return dict(values=values, rows=rows, columns=columns, k=rng.randint(1, min(4, columns)),
                 a=rng.randint(1, b - 1), b=b, observed=rng.randrange(rows))
+
+
+def pass_of(values, rows, columns, observed) -> tuple:
+    """The figures for k = 1 by one pass, as document 02, §1 words it."""
+    table_rows = [values[g * columns:(g + 1) * columns] for g in range(rows)]
+    seen, left = table_rows[observed], list(range(columns))
+    figures, running = [None] * columns, 0
+    while left:
+        j = min(left, key=lambda i: (-seen[i], i))
+        running = max(running, sum(max(row[i] for i in left) >= seen[j] for row in table_rows))
+        figures[j] = running
+        left.remove(j)
+    return tuple(figures)
+
+
+class AdjustedFigures(unittest.TestCase):
+    """Document 02, §1."""
+
+    def figures(self, rows, k=1, observed=0):
+        """Those of a table given by its rows."""
+        values = [float(value) for row in rows for value in row]
+        return adjusted.table_figures(values, len(rows), len(rows[0]), k, observed)
+
+    def test_w(self):
+        self.assertEqual(adjusted.trial_figures(W), (1, 3))
+        self.assertEqual(sheet.sheet(W_FILE), "0042 1\n7 3\nend 8\n")
+        self.assertEqual(adjusted.trial_figures(replace(W, a=1, b=16_383)), (1, 3))
+
+    def test_p(self):
+        values = [float(value) for value in P]
+        self.assertEqual(adjusted.table_figures(values, 4, 3, 2, 0), (0, 1, 2))
+
+    def test_one_row(self):
+        self.assertEqual(self.figures([(-3.5,)]), (1,))
+        self.assertEqual(self.figures([(5, 2, 5)]), (1, 1, 1))
+        self.assertEqual(self.figures([(5, 2, 4)], k=2), (0, 1, 1))
+
+    def test_none_rejects(self):
+        """M where the observed value is below all others, or all are equal."""
+        self.assertEqual(self.figures([(0,), (1,), (2,)]), (3,))
+        self.assertEqual(self.figures([(1, 1), (1, 1)]), (2, 2))
+        self.assertEqual(self.figures([(0, 9), (1, 1), (2, 3)]), (3, 1))
+
+    def test_ties(self):
+        """Equal observed values have equal figures, and a row that reaches one counts."""
+        self.assertEqual(self.figures([(3, 3), (3, 0), (0, 1), (2, 2)]), (2, 2))
+        self.assertEqual(self.figures([(3, 3), (3, 0), (0, 3), (2, 2)]), (3, 3))
+        self.assertEqual(self.figures([(3, 3), (3, 0), (0, 3), (2, 2)], k=2), (1, 1))
+
+    def test_zeros(self):
+        for values in ((0.0, -0.0), (-0.0, 0.0), (-0.0, -0.0)):
+            self.assertEqual(self.figures([(value,) for value in values]), (2,))
+        self.assertEqual(self.figures([(-0.0, 0.0), (-1.0, 0.0), (-1.0, -1.0)]), (2, 2))
+
+    def test_running_maximum(self):
+        """A larger observed value that many rows reach holds up the columns below it."""
+        self.assertEqual(self.figures([(5, 4), (9, 0), (9, 0), (0, 0)]), (3, 3))
+        self.assertEqual(self.figures([(4, 5), (0, 9), (0, 9), (0, 0)]), (3, 3))
+
+    def test_by_full_runs(self):
+        """Rejected at a level exactly from the figure on."""
+        rng = random.Random("adjusted, full runs")
+        for _ in range(200):
+            given = random_table(rng)
+            rows = given["rows"]
+            figures = adjusted.table_figures(given["values"], rows, given["columns"], given["k"],
+                                             given["observed"])
+            for e in range(rows):
+                full = table.full_run(**{**given, "a": 2 * e + 1, "b": 2 * rows})
+                self.assertEqual([step > 0 for step in steps_of(full)],
+                                 [figure <= e for figure in figures])
+
+    def test_the_pass(self):
+        """For k = 1 both ways agree."""
+        rng = random.Random("adjusted, pass")
+        for _ in range(1500):
+            given = random_table(rng, 12, 6)
+            figures = (given["values"], given["rows"], given["columns"])
+            self.assertEqual(adjusted.table_figures(*figures, 1, given["observed"]),
+                             pass_of(*figures, given["observed"]))
+
+    def test_refusals(self):
+        good = dict(values=[1.0, 2.0], rows=2, columns=1, k=1, observed=0, work=[9.0] * 3)
+        self.assertEqual(adjusted.table_figures(**good), (2,))
+        self.assertEqual(good["work"], [0.0, 0.0, 9.0])
+        short = [9.0]
+        faults = [(4, dict(k=2)), (9, dict(values=[NAN, 1.0, 2.0])), (10, dict(observed=2)),
+                  (11, dict(values=[1.0, -INF])), (12, dict(work=short))]
+        for at, (number, fault) in enumerate(faults):
+            self.assertEqual(adjusted.table_figures(**{**good, **fault}), Refused(number))
+            for _, later in faults[at + 1:]:
+                self.assertEqual(adjusted.table_figures(**{**good, **later, **fault}),
+                                 Refused(number))
+        self.assertEqual(short, [9.0])
+
+    def test_trial_refusals(self):
+        """A trial is checked as ever, its level too."""
+        self.assertEqual(adjusted.trial_figures(replace(W, a=4)), Refused(3))
+        self.assertEqual(adjusted.trial_figures(replace(W, a=4, pairs=10)), Refused(4))
+        self.assertEqual(adjusted.trial_figures(W, [7.0] * 15), Refused(12))
+        self.assertEqual(adjusted.trial_figures(W, None, [7.0] * 7), Refused(12))
+        buffer, work = [7.0] * 17, [7.0] * 9
+        self.assertEqual(adjusted.trial_figures(W, buffer, work), (1, 3))
+        self.assertEqual((buffer, work), (trial.table_of(W) + [7.0], [0.0] * 8 + [7.0]))
+        self.assertEqual(sheet.sheet(W_FILE[:-1]), "refused 1\n")
+
+    def test_c_calls(self):
+        figures, rows = [7] * 3, [7]
+        self.assertEqual(ccall.adjusted_on_file(W_FILE, figures, rows), 0)
+        self.assertEqual((figures, rows), ([1, 3, 7], [8]))
+        short, rows = [7], [7]
+        self.assertEqual(ccall.adjusted_on_file(W_FILE, short, rows), 112)
+        self.assertEqual(ccall.adjusted_on_file(W_FILE + bytes(4), short, rows), 108)
+        self.assertEqual((short, rows), ([7], [7]))
+        values = [float(value) for value in P]
+        for room, places, answer in ((3, 4, 0), (2, 4, 112), (3, 3, 112), (5, 6, 0)):
+            figures, work = [7] * room, [7.0] * places
+            self.assertEqual(ccall.adjusted_on_table(values, 4, 3, 2, 0, work, figures), answer)
+            self.assertEqual(figures, ([0, 1, 2] + [7] * room)[:room] if answer == 0 else [7] * room)
+            self.assertEqual(work, ([0.0] * 4 + [7.0] * places)[:places] if answer == 0
+                             else [7.0] * places)
+        self.assertEqual(ccall.adjusted_on_table([NAN] * 12, 4, 3, 2, 0, [], []), 111)
 
 
 def subsets(size):

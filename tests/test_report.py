@@ -1,231 +1,45 @@
 """The report program, as a process: standard input in, one report or one refusal out.
 
-The text itself is compared for many more files by the program `vectors`; here it
-is what a process adds: reading to the end, a pipe that comes in pieces, input that
-is too long or never ends, and descriptors that fail, wait or are interrupted.
+The text itself is compared for many more files by the program `vectors`; here it is what a process
+adds.
 """
 
-import errno
-import itertools
-import os
-import pathlib
-import subprocess
-import tempfile
-import time
-import tty
 import unittest
 
-import cases
+import programs
 from reference.report import report
-
-ROOT = pathlib.Path(__file__).resolve().parent.parent
-PROGRAM = ROOT / "target" / "bin" / "report"
-LONGEST = 652
-SECONDS = 20  # a program that has not ended by then is taken for one that never will
-WAIT = 0.3  # long enough for a program that does not wait to have ended
-W = (ROOT / "samples" / "w.trial").read_bytes()
 
 
 def setUpModule():
-    """Proves and builds the program: it is built only where it is proved."""
-    done = subprocess.run(["rt", "check", "report"], cwd=ROOT, capture_output=True, text=True)
-    if done.returncode != 0:
-        raise RuntimeError(done.stdout + done.stderr)
+    programs.prove("report")
 
 
-def printed(data: bytes) -> str:
-    """What the program prints for an input, with nothing on standard error."""
-    done = subprocess.run([PROGRAM], input=data, capture_output=True, timeout=SECONDS, check=True)
-    if done.stderr:
-        raise AssertionError(done.stderr)
-    return done.stdout.decode("ascii")
+class Report:
+    name, text = "report", staticmethod(report)
 
 
-def failure(stream: str, number: int) -> bytes:
-    """The line on standard error for a stream that failed with an error number."""
-    return f"{stream}: {os.strerror(number)}\n".encode("ascii")
+class Samples(Report, programs.Samples, unittest.TestCase):
+    pass
 
 
-class Samples(unittest.TestCase):
-    def test_each_sample(self):
-        for path in sorted((ROOT / "samples").glob("*.trial")):
-            data = path.read_bytes()
-            self.assertEqual(printed(data), report(data), path.name)
-
-    def test_the_stored_run_is_the_sample(self):
-        stored = ROOT / "crates" / "report"
-        data = (stored / "stdin").read_bytes()
-        self.assertEqual(data, (ROOT / "samples" / "w.trial").read_bytes())
-        self.assertEqual((stored / "stdout").read_text(), report(data))
+class Inputs(Report, programs.Inputs, unittest.TestCase):
+    pass
 
 
-class Inputs(unittest.TestCase):
-    def test_generated_files(self):
-        for case in itertools.islice(cases.every_case_of("file"), 0, None, 25):
-            self.assertEqual(printed(case.data), report(case.data), case.name)
-
-    def test_nothing(self):
-        self.assertEqual(printed(b""), "refused 1\n")
-
-    def test_every_byte(self):
-        self.assertEqual(printed(bytes(range(256))), "refused 2\n")
-
-    def test_one_word_more_than_the_longest_file(self):
-        longest = (ROOT / "samples" / "full.trial").read_bytes()
-        self.assertEqual(len(longest), LONGEST)
-        self.assertEqual(printed(longest + bytes(4)), "refused 1\n")
-        self.assertEqual(printed(longest + bytes(1)), "refused 1\n")
-
-    def test_an_endless_stream(self):
-        with open("/dev/zero", "rb") as zeros:
-            done = subprocess.run([PROGRAM], stdin=zeros, capture_output=True, timeout=SECONDS, check=True)
-        self.assertEqual(done.stdout, b"refused 1\n")
-
-    def test_input_in_pieces(self):
-        with subprocess.Popen([PROGRAM], stdin=subprocess.PIPE, stdout=subprocess.PIPE) as child:
-            for at in range(0, len(W), 7):
-                child.stdin.write(W[at:at + 7])
-                child.stdin.flush()
-                time.sleep(0.01)
-            child.stdin.close()
-            self.assertEqual(child.stdout.read().decode("ascii"), report(W))
-            self.assertEqual(child.wait(SECONDS), 0)
+class FailedReads(Report, programs.FailedReads, unittest.TestCase):
+    pass
 
 
-class Processes(unittest.TestCase):
-    """With a program that is started and then watched; what is left open or running at the end of a test is closed and ended."""
-
-    def pipe(self):
-        ends = os.pipe()
-        for end in ends:
-            self.addCleanup(self.close, end)
-        return ends
-
-    @staticmethod
-    def close(descriptor):
-        try:
-            os.close(descriptor)
-        except OSError:
-            pass  # the test has closed it
-
-    def start(self, stdin, stdout=subprocess.PIPE, **more):
-        child = subprocess.Popen([PROGRAM], stdin=stdin, stdout=stdout, stderr=subprocess.PIPE, **more)
-        self.addCleanup(child.communicate)
-        self.addCleanup(child.kill)
-        return child
-
-    def ends(self, child, output, error):
-        """The program ends with this on standard output, None where that is the test's own, and this on standard error."""
-        self.assertEqual(child.communicate(timeout=SECONDS), (output, error))
-        self.assertEqual(child.returncode, 0)
-
-    def waits(self, child):
-        with self.assertRaises(subprocess.TimeoutExpired):
-            child.wait(WAIT)
+class FailedWrites(Report, programs.FailedWrites, unittest.TestCase):
+    pass
 
 
-class FailedReads(Processes):
-    def test_closed(self):
-        child = self.start(None, preexec_fn=lambda: os.close(0))
-        self.ends(child, b"", failure("standard input", errno.EBADF))
-
-    def test_directory(self):
-        folder = os.open(ROOT, os.O_RDONLY)
-        self.addCleanup(self.close, folder)
-        self.ends(self.start(folder), b"", failure("standard input", errno.EISDIR))
-
-    def test_after_a_whole_file(self):
-        # the other side of a terminal gives all of W and goes away: the next read fails
-        master, slave = os.openpty()
-        self.addCleanup(self.close, master)
-        self.addCleanup(self.close, slave)
-        tty.setraw(slave)
-        child = self.start(master)
-        os.write(slave, W)
-        self.waits(child)
-        os.close(slave)
-        self.ends(child, b"", failure("standard input", errno.EIO))
+class Waiting(Report, programs.Waiting, unittest.TestCase):
+    pass
 
 
-class FailedWrites(Processes):
-    def writes(self, error, **more):
-        reads, writes = self.pipe()
-        child = self.start(reads, **more)
-        os.write(writes, W)
-        os.close(writes)
-        self.ends(child, None, failure("standard output", error))
-
-    def test_full_disk(self):
-        with open("/dev/full", "wb") as full:
-            self.writes(errno.ENOSPC, stdout=full)
-
-    def test_closed(self):
-        self.writes(errno.EBADF, stdout=None, preexec_fn=lambda: os.close(1))
-
-    def test_not_for_writing(self):
-        with open("/dev/null", "rb") as null:
-            self.writes(errno.EBADF, stdout=null)
-
-
-class Waiting(Processes):
-    def late_input(self, blocking, **more):
-        """W in two parts, the second late, and the end of the input later still."""
-        reads, writes = self.pipe()
-        os.set_blocking(reads, blocking)
-        child = self.start(reads, **more)
-        for part in (W[:10], W[10:]):
-            self.waits(child)
-            os.write(writes, part)
-        self.waits(child)
-        os.close(writes)
-        self.ends(child, report(W).encode("ascii"), b"")
-
-    def late_output(self, blocking, **more):
-        """Standard output is a pipe that is full, and emptied late."""
-        source, feed = self.pipe()
-        os.write(feed, W)
-        os.close(feed)
-        reads, writes = self.pipe()
-        os.set_blocking(writes, False)
-        filled = 0
-        try:
-            while True:
-                filled += os.write(writes, bytes(4096))
-        except BlockingIOError:
-            os.set_blocking(writes, blocking)
-        child = self.start(source, stdout=writes, **more)
-        os.close(writes)
-        self.waits(child)
-        with open(reads, "rb", closefd=False) as pipe:
-            self.assertEqual(pipe.read()[filled:], report(W).encode("ascii"))
-        self.ends(child, None, b"")
-
-    def test_input_that_does_not_block(self):
-        self.late_input(False)
-
-    def test_output_that_does_not_block(self):
-        self.late_output(False)
-
-
-class Interrupted(Waiting):
-    """The same with signals that interrupt every call that waits."""
-
-    @classmethod
-    def setUpClass(cls):
-        cls.folder = tempfile.TemporaryDirectory()
-        cls.addClassCleanup(cls.folder.cleanup)
-        cls.library = pathlib.Path(cls.folder.name) / "interrupts.so"
-        source = ROOT / "tests" / "interrupts.c"
-        subprocess.run(["gcc", "-Wall", "-Wextra", "-Werror", "-shared", "-fPIC", source, "-o", cls.library], check=True)
-
-    def start(self, stdin, stdout=subprocess.PIPE, **more):
-        return super().start(stdin, stdout, env={"LD_PRELOAD": str(self.library)}, **more)
-
-    def test_input_that_blocks(self):
-        self.late_input(True)
-
-    def test_output_that_blocks(self):
-        self.late_output(True)
+class Interrupted(Report, programs.Interrupted, unittest.TestCase):
+    pass
 
 
 if __name__ == "__main__":

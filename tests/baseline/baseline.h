@@ -3,6 +3,7 @@
  *
  * It has what the benchmark measures and no more, with the same lent buffers and without allocation:
  *   stepdown.c   full runs of tables
+ *   adjusted.c   adjusted figures of tables (document 02, section 1)
  *   trial.c      trial records: checks, table, full run
  *   file.c       trial files: reader and writer
  *   report.c     the report's text, and the verdicts as the calls of include/becardlarder.h give them
@@ -63,7 +64,16 @@ int good_level(size_t a, size_t b);
 /* e = floor(M * a / b). */
 size_t allowance(size_t rows, size_t a, size_t b);
 
+/* All checks of a table but that of its level. */
+int good_table(const struct table *table);
+
 int run_table(const struct table *table, struct full_run *run);
+
+/* The adjusted figure of each column, by one pass down the observed values. No level is looked at. */
+int figures_of_table(const struct table *table, uint32_t *figures, size_t places);
+
+/* The same, with the rows' maxima over the columns still to be passed, all found in one pass over the table before. */
+int figures_by_maxima(const struct table *table, uint32_t *figures, size_t places);
 
 /* Whether the counts are in their ranges, and k is at most the offers. */
 int good_counts(const struct trial *trial);

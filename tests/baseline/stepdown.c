@@ -28,9 +28,9 @@ static int good_shape(const struct table *t)
            t->k <= MOST_K && t->k <= t->columns;
 }
 
-static int check_table(const struct table *t)
+int good_table(const struct table *t)
 {
-    return good_shape(t) && good_level(t->a, t->b) && t->length == t->rows * t->columns && t->observed < t->rows &&
+    return good_shape(t) && t->length == t->rows * t->columns && t->observed < t->rows &&
            all_finite(t->values, t->length) && t->rows <= t->places;
 }
 
@@ -160,7 +160,7 @@ static void count_rows(const struct table *t, struct full_run *run)
 
 int run_table(const struct table *t, struct full_run *run)
 {
-    if (!check_table(t))
+    if (!good_level(t->a, t->b) || !good_table(t))
         return 0;
     memset(run, 0, sizeof *run);
     while (step(t, run))

@@ -33,12 +33,38 @@ static double noise(void)
     return sum;
 }
 
-static void make_winners(const struct recipe *r, double *values)
+static void make_noise(const struct recipe *r, double *values)
 {
     for (size_t i = 0; i < r->rows * r->columns; i++)
         values[i] = noise();
+}
+
+static void make_winners(const struct recipe *r, double *values)
+{
+    make_noise(r, values);
     for (size_t j = 0; j < r->columns; j++)
         values[j] = j < r->winners ? 100 + noise() : 0;
+}
+
+static int by_value(const void *x, const void *y)
+{
+    double a = *(const double *)x, b = *(const double *)y;
+    return (a > b) - (a < b);
+}
+
+/* With j columns passed, ever more rows have 4 values that reach the next one, among those left and 3 put back. */
+static void make_slope(const struct recipe *r, double *values)
+{
+    double *sorted = allocate(r->rows * sizeof *sorted), columns = (double)r->columns;
+    make_noise(r, values);
+    for (size_t g = 0; g < r->rows; g++)
+        sorted[g] = values[g * r->columns];
+    qsort(sorted, r->rows, sizeof *sorted, by_value);
+    for (size_t j = 0; j < r->columns; j++) {
+        double reaching = (2 + 2.2 * (double)j / columns) / (columns + 3 - (double)j), most = 0.99;
+        values[j] = sorted[(size_t)((double)r->rows * (1 - (reaching < most ? reaching : most)))];
+    }
+    free(sorted);
 }
 
 /* The lowest value of a column of a ladder. Values lie less than 50 above it, the observed one 60. */
@@ -82,6 +108,13 @@ static void order(enum pattern pattern, size_t *rank, size_t n)
     }
 }
 
+/* The row of a ladder that is largest in every column. */
+static void make_largest(const struct recipe *r, double *row)
+{
+    for (size_t j = 0; j < r->columns; j++)
+        row[j] = rung(r, j) + 60;
+}
+
 /* Answers the row that is largest in every column. */
 static size_t make_ordered(const struct recipe *r, double *values)
 {
@@ -104,13 +137,14 @@ void make_table(const struct recipe *r, size_t number, struct table *t)
     state = SEED + number;
     if (r->pattern == WINNERS)
         make_winners(r, values);
+    else if (r->pattern == SLOPE)
+        make_slope(r, values);
     else if (r->pattern == LADDER)
         make_ladder(r, values);
     else
         observed = make_ordered(r, values);
-    if (r->pattern != WINNERS)
-        for (size_t j = 0; j < r->columns; j++)
-            values[observed * r->columns + j] = rung(r, j) + 60;
+    if (r->pattern != WINNERS && r->pattern != SLOPE)
+        make_largest(r, values + observed * r->columns);
     *t = (struct table){values, r->rows * r->columns, r->rows, r->columns, r->k, 1, 20, observed, NULL, 0};
 }
 

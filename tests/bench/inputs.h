@@ -8,6 +8,7 @@
 enum pattern {
     WINNERS, /* noise; in the observed row the first columns stand far above it, and the others at zero: step 1 rejects
                 the first ones, step 2 none */
+    SLOPE,   /* noise; observed values fall from column to column, and with k = 4 each figure is above those before */
     LADDER,  /* each column lies above all later ones: step 1 rejects k columns, each later step one */
     RISING,  /* as a ladder, with every column in this order from row to row */
     FALLING,

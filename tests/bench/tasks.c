@@ -24,6 +24,7 @@ static double work[MOST_ROWS]; /* the work buffer of all tables */
 static struct answer {
     size_t number;
     uint8_t bytes[LONGEST_REPORT];
+    uint32_t adjusted[MOST_COLUMNS];
     struct trial trial;
     size_t figures[FIGURES];
 } answers[BOTH];
@@ -55,6 +56,23 @@ static void run_library(void)
     a->number = becardlarder_table_verdicts(t->values, t->length, t->rows, t->columns, t->k, t->a, t->b, t->observed,
                                             t->work, t->places, a->bytes, MOST_COLUMNS);
     accepted(a->number < BECARDLARDER_REFUSED, "library");
+}
+
+static void adjusted_baseline(void)
+{
+    accepted(figures_of_table(&next(BASELINE)->table, answers[BASELINE].adjusted, MOST_COLUMNS), "baseline");
+}
+
+static void maxima_baseline(void)
+{
+    accepted(figures_by_maxima(&next(BASELINE)->table, answers[BASELINE].adjusted, MOST_COLUMNS), "baseline");
+}
+
+static void adjusted_library(void)
+{
+    const struct table *t = &next(LIBRARY)->table;
+    accepted(becardlarder_table_adjusted(t->values, t->length, t->rows, t->columns, t->k, t->observed, t->work,
+                                         t->places, answers[LIBRARY].adjusted, MOST_COLUMNS) == 0, "library");
 }
 
 static void verdicts_baseline(void)
@@ -119,6 +137,8 @@ const call *calls_of(const struct task *task)
 {
     static const call calls[KINDS][BOTH] = {
         [RUN] = {run_baseline, run_library},
+        [ADJUSTED] = {adjusted_baseline, adjusted_library},
+        [MAXIMA] = {maxima_baseline, adjusted_library},
         [VERDICTS] = {verdicts_baseline, verdicts_library},
         [REPORT] = {report_baseline, report_library},
         [DOUBLED] = {doubled_baseline, report_library},
@@ -145,10 +165,15 @@ static void make_file(const struct task *task, size_t number, struct input *in)
         fail("not a largest file", task->name);
 }
 
+static int of_tables(const struct task *task)
+{
+    return task->kind == RUN || task->kind == ADJUSTED || task->kind == MAXIMA;
+}
+
 size_t inputs_of(const struct task *task)
 {
     size_t values = task->recipe.rows * task->recipe.columns;
-    if (task->kind != RUN)
+    if (!of_tables(task))
         return FILES;
     return VALUES / values < MOST_INPUTS ? VALUES / values : MOST_INPUTS;
 }
@@ -161,7 +186,7 @@ void prepare(const struct task *task, size_t many)
     memset(turn, 0, sizeof turn);
     prepared = many;
     for (size_t i = 0; i < many; i++) {
-        if (task->kind == RUN)
+        if (of_tables(task))
             make_table(&task->recipe, i, &inputs[i].table);
         else
             make_file(task, i, &inputs[i]);
@@ -178,13 +203,18 @@ static void same(int holds, const struct task *task, const char *what)
         fail(what, task->name);
 }
 
+static void check_cleared(const struct task *task)
+{
+    static const double cleared[MOST_ROWS];
+    same(memcmp(work, cleared, sizeof cleared) == 0, task, "the work buffer is not cleared");
+}
+
 /* All that a full run of a table answers. */
 static struct facts compare_run(const struct task *task, const struct table *t)
 {
     struct full_run run;
     size_t steps, counts[MOST_COLUMNS], verdicts[MOST_COLUMNS];
     double criticals[MOST_COLUMNS];
-    static const double cleared[MOST_ROWS];
     same(run_table(t, &run), task, "the baseline refuses the table");
     uint32_t refusal = bench_table(t->values, t->length, t->rows, t->columns, t->k, t->a, t->b, t->observed, t->work,
                                    t->places, &steps, criticals, counts, verdicts);
@@ -194,8 +224,21 @@ static struct facts compare_run(const struct task *task, const struct table *t)
     same(memcmp(counts, run.count, sizeof counts) == 0, task, "counts differ");
     for (size_t j = 0; j < MOST_COLUMNS; j++)
         same(verdicts[j] == run.step[j], task, "verdicts differ");
-    same(memcmp(t->work, cleared, sizeof cleared) == 0, task, "the work buffer is not cleared");
+    check_cleared(task);
     return (struct facts){run.steps, run.rejected, run.sets, {0, 0}};
+}
+
+/* The figures of both, and that they are at most e where the full run at the table's level rejects. */
+static struct facts compare_adjusted(const struct task *task, const struct table *t)
+{
+    struct full_run run;
+    const uint32_t *figures = answers[LIBRARY].adjusted;
+    check_cleared(task);
+    same(memcmp(answers[BASELINE].adjusted, figures, sizeof answers[LIBRARY].adjusted) == 0, task, "figures differ");
+    same(run_table(t, &run), task, "the baseline refuses the table");
+    for (size_t j = 0; j < t->columns; j++)
+        same((figures[j] <= allowance(t->rows, t->a, t->b)) == (run.step[j] != 0), task, "figures of another method");
+    return (struct facts){0};
 }
 
 /* A table is what its recipe says: in a ladder one column falls in each step after the first, which rejects k. */
@@ -244,7 +287,9 @@ static struct facts compare_one(const struct task *task, const struct input *in)
         stack[i] = stack_of(calls_of(task)[i]);
     same(answers[BASELINE].number == answers[LIBRARY].number, task, "results differ");
     same(memcmp(answers[BASELINE].bytes, answers[LIBRARY].bytes, LONGEST_REPORT) == 0, task, "bytes differ");
-    struct facts facts = task->kind == RUN ? compare_run(task, &in->table) : compare_file(task, in);
+    struct facts facts = task->kind == RUN   ? compare_run(task, &in->table)
+                         : of_tables(task) ? compare_adjusted(task, &in->table)
+                                           : compare_file(task, in);
     if (task->kind == RUN)
         check_recipe(task, &facts);
     memcpy(facts.stack, stack, sizeof stack);

@@ -7,6 +7,8 @@
 
 enum kind {
     RUN,      /* full run of a table */
+    ADJUSTED, /* its adjusted figures */
+    MAXIMA,   /* the same, against a baseline that counts the rows' maxima first */
     VERDICTS, /* the call for C on a largest file */
     REPORT,   /* its report */
     DOUBLED,  /* its report, against a baseline that makes its table by doubling too */

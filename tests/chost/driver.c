@@ -4,9 +4,12 @@
  * A frame of standard input has a byte that names the call, its numbers (64 bits each), then its data:
  *   F  file length, buffer length; the file's bytes
  *   T  table length, rows, columns, k, a, b, observed, work length, buffer length; the table's values
+ *   G  file length, figures length; the file's bytes. Adjusted figures of a trial
+ *   A  table length, rows, columns, k, observed, work length, figures length; the table's values. Adjusted figures
  * The answer on standard output is the result (32 bits), then every place of each lent buffer and GUARD places beyond
- * it. All of these hold MARK before the call. At the end standard error tells the most stack that a call has used.
- * The build gives MARK and GUARD.
+ * it; of a G frame the last buffer has one place, for the rows. All of these hold MARK before the call, in each byte
+ * but in the work buffer as a value. At the end standard error tells the most stack that a call has used. The build
+ * gives MARK and GUARD.
  */
 #include <stdio.h>
 #include <stdlib.h>
@@ -25,6 +28,7 @@ static uint64_t n[9];
 static void *data;
 static double *work;
 static uint8_t *verdicts;
+static uint32_t *figures, *rows;
 static uint32_t result;
 
 static void fail(const char *message)
@@ -70,6 +74,17 @@ static void call_table(void)
                                          lent(work, n[7]), n[7], lent(verdicts, n[8]), n[8]);
 }
 
+static void call_file_adjusted(void)
+{
+    result = becardlarder_trial_adjusted(lent(data, n[0]), n[0], lent(figures, n[1]), n[1], rows);
+}
+
+static void call_table_adjusted(void)
+{
+    result = becardlarder_table_adjusted(lent(data, n[0]), n[0], n[1], n[2], n[3], n[4], lent(work, n[5]), n[5],
+                                         lent(figures, n[6]), n[6]);
+}
+
 /* Makes a call on the measured stack. */
 static void on_stack(void (*f)(void))
 {
@@ -99,10 +114,20 @@ static void read_case(size_t numbers, size_t size)
     read_all(data, n[0] * size);
 }
 
+/* So many bytes, each marked. */
+static void *marked(size_t bytes)
+{
+    return memset(places(bytes), MARK, bytes);
+}
+
 static void lend_verdicts(size_t length)
 {
-    verdicts = places(length + GUARD);
-    memset(verdicts, MARK, length + GUARD);
+    verdicts = marked(length + GUARD);
+}
+
+static void lend_figures(size_t length)
+{
+    figures = marked((length + GUARD) * sizeof *figures);
 }
 
 static void lend_work(size_t length)
@@ -137,6 +162,34 @@ static void table_case(void)
     free(verdicts);
 }
 
+static void file_adjusted_case(void)
+{
+    read_case(2, sizeof(uint8_t));
+    lend_figures(n[1]);
+    rows = marked((1 + GUARD) * sizeof *rows);
+    on_stack(call_file_adjusted);
+    write_all(&result, sizeof result);
+    write_all(figures, (n[1] + GUARD) * sizeof *figures);
+    write_all(rows, (1 + GUARD) * sizeof *rows);
+    free(data);
+    free(figures);
+    free(rows);
+}
+
+static void table_adjusted_case(void)
+{
+    read_case(7, sizeof(double));
+    lend_work(n[5]);
+    lend_figures(n[6]);
+    on_stack(call_table_adjusted);
+    write_all(&result, sizeof result);
+    write_all(work, (n[5] + GUARD) * sizeof *work);
+    write_all(figures, (n[6] + GUARD) * sizeof *figures);
+    free(data);
+    free(work);
+    free(figures);
+}
+
 int main(void)
 {
     int kind;
@@ -146,6 +199,10 @@ int main(void)
             file_case();
         else if (kind == 'T')
             table_case();
+        else if (kind == 'G')
+            file_adjusted_case();
+        else if (kind == 'A')
+            table_adjusted_case();
         else
             fail("unknown call");
     }

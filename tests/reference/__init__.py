@@ -1,6 +1,7 @@
 """An independent reference of document 01, "Offer trials by exchange of paired shops".
 
-Written from the paper alone, for comparison with another implementation.
+Written from the paper alone, and from document 02 where it asks for more, for comparison with
+another implementation.
 
 refusals.py   the refusal numbers and the conditions that several calls share
 method.py     e, k-max, c(K), put-back sets, one step, the stopping rule, counts
@@ -8,9 +9,11 @@ table.py      a lent table: its refusals and its full run
 run.py        a run taken step by step: begin, step, the clauses of refusal 14
 trial.py      the trial record: its refusals, its table, its full run
 trialfile.py  reader and writer of trial files
+adjusted.py   adjusted figures of tables and trials, by trying every e
 report.py     the text of the report program
+sheet.py      the text of the program `adjusted`
 view.py       a place of a view of lent values
-ccall.py      the call for C
+ccall.py      the calls for C
 
 A refusal is a result like any other: `Refused(number)` is returned, never raised.
 Lent buffers are mutable lists (f64) or bytearrays; a refused call leaves them

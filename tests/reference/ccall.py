@@ -1,8 +1,12 @@
-"""The calls for C (document 01, "Report and C call"), and the same for a host that holds a table."""
+"""The calls for C (document 01, "Report and C call"), and the same for a host that holds a table.
 
+Those for adjusted figures (document 02, §1) come last.
+"""
+
+from .adjusted import figures_refusal, table_figures, trial_figures
 from .refusals import Refused, fill, too_short
 from .table import Rejected, full_run as run_table, table_refusal
-from .trial import full_run
+from .trial import full_run, rows_of
 from .trialfile import read
 
 
@@ -42,3 +46,34 @@ def on_table(values, rows, columns, k, a, b, observed, work, buffer) -> int:
     run = run_table(values, rows, columns, k, a, b, observed, work)
     fill(buffer, steps(run))
     return run.rejected()
+
+
+def adjusted_on_file(data: bytes, figures: list, rows: list) -> int:
+    """0, or 100 plus the refusal number.
+
+    The first places of `figures` hold the figure of each offer, and that of `rows` holds M. A
+    buffer too short (12) is judged after all checks of the file.
+    """
+    trial = read(data)
+    if isinstance(trial, Refused):
+        return 100 + trial.number
+    if too_short(figures, trial.offers):
+        return 112
+    fill(figures, trial_figures(trial))
+    fill(rows, [rows_of(trial)])
+    return 0
+
+
+def adjusted_on_table(values, rows, columns, k, observed, work, figures) -> int:
+    """0, or 100 plus the refusal number.
+
+    The first places of `figures` hold the figure of each column, and the work buffer plus zero
+    for each row. Either too short (12) is judged after all checks of the table.
+    """
+    number = figures_refusal(values, rows, columns, k, observed)
+    if number is not None:
+        return 100 + number
+    if too_short(work, rows) or too_short(figures, columns):
+        return 112
+    fill(figures, table_figures(values, rows, columns, k, observed, work))
+    return 0
