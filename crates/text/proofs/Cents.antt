@@ -10,9 +10,8 @@ use lib.Dec.{T, leb→le, ltb→lt}
 use lib.IntN.{ℤ, pos, negsuc, natAbs}
 use lib.Ieee.{Float, binary64, fits, inSigned, inFloat, ofInt}
 use lib.Ieee.Back.{float-back-signed}
-use Rattle.rendering.specs.Ascii.{ascii}
-use Rattle.rendering.specs.Text.{decimal, decimalInt}
-use Rattle.rendering.specs.Reports.{cents}
+use Rattle.text.specs.Ascii.{ascii}
+use Rattle.text.specs.Text.{decimal, decimalInt, cents}
 
 module _ (c : Float) (f : T (fits binary64 c)) (w : T (inSigned binary64 63 c)) where
   pub cents-small : natAbs (cents c) < 2 ^ 63

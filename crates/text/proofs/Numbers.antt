@@ -9,7 +9,7 @@ use mathlib.Core.Bool.{Bool, cond}
 use mathlib.Core.List.{[], _++_}
 use borrow.Author.Tests.{lt-ltb, le-ltb}
 use Rattle.refusals.proofs.Limits.{positive}
-use Rattle.rendering.specs.Text.{digit, printed, decimalUpTo}
+use Rattle.text.specs.Text.{digit, printed, decimalUpTo}
 
 pub less : (n t : ℕ) → (n ≡ 0 → ⊥) → n ≡ t → n - 1 < t
 less n t f e = omega (arith, positive n f)

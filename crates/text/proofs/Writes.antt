@@ -14,7 +14,7 @@ use native.Mathlib.Omega.{arith}
 use lib.ListN.{length, getD, take, drop, set, length-append, take-append-drop}
 use lib.Seq.{take-suc-set, take-suc, take-all, drop-drop, drop-set-lt}
 use Rattle.refusals.specs.Buffers.{written}
-use Rattle.rendering.specs.Internal.{Wrote}
+use Rattle.text.specs.Writes.{Wrote}
 
 pub put-one : (l : List ℕ) (at b : ℕ) → at < length l → Wrote l (set l at b) at (at + 1) (b ∷ [])
 put-one l at b h = record { ends = refl; text = rw (add-one, take-suc-set l at b h); beyond = drop-set-lt (at + 1) l at b (omega arith) }

@@ -5,14 +5,14 @@ use native.Mathlib.Omega.{arith}
 use borrow.Fn.Kinds.{In}
 use borrow.Fn.PlainCycle.{Measures, is, falls, and}
 use Rattle.refusals.proofs.Limits.{positive}
-use Rattle.rendering.proofs.TextWrites.{then, wrote-none, wrote-as}
-use Rattle.rendering.proofs.Numbers.{printed-none, printed-more, less, remainder}
-use Rattle.rendering.proofs.text.+put_printed.{statement}
-use Rattle.rendering.proofs.text.put_printed.Reads as put-printed
-use Rattle.rendering.proofs.text.put_printed.Kinds as put-printed-kinds
-use Rattle.rendering.proofs.text.+put_printed.Lts-put_printed as put-printed-lts
-use Rattle.rendering.proofs.text.put_digit.Reads as put-digit-reads
-use Rattle.rendering.proofs.text.+put_printed.Tie.{close}
+use Rattle.text.proofs.Writes.{then, wrote-none, wrote-as}
+use Rattle.text.proofs.Numbers.{printed-none, printed-more, less, remainder}
+use Rattle.text.proofs.+put_printed.{statement}
+use Rattle.text.proofs.put_printed.Reads as put-printed
+use Rattle.text.proofs.put_printed.Kinds as put-printed-kinds
+use Rattle.text.proofs.+put_printed.Lts-put_printed as put-printed-lts
+use Rattle.text.proofs.put_digit.Reads as put-digit-reads
+use Rattle.text.proofs.+put_printed.Tie.{close}
 
 abbrev μ-put-printed : Measures 1 put-printed-kinds.ps ℕ
 μ-put-printed κs a = a .1 .1 .1 .0

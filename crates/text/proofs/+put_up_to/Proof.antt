@@ -5,14 +5,14 @@ use native.Mathlib.Omega.{arith}
 use borrow.Fn.Kinds.{In}
 use borrow.Fn.PlainCycle.{Measures, is, falls, and}
 use Rattle.refusals.proofs.Limits.{positive}
-use Rattle.rendering.proofs.TextWrites.{then, wrote-none, wrote-as}
-use Rattle.rendering.proofs.Numbers.{less, remainder, decimal-none, decimal-one, decimal-more}
-use Rattle.rendering.proofs.text.+put_up_to.{statement}
-use Rattle.rendering.proofs.text.put_up_to.Reads as put-up-to
-use Rattle.rendering.proofs.text.put_up_to.Kinds as put-up-to-kinds
-use Rattle.rendering.proofs.text.+put_up_to.Lts-put_up_to as put-up-to-lts
-use Rattle.rendering.proofs.text.put_digit.Reads as put-digit-reads
-use Rattle.rendering.proofs.text.+put_up_to.Tie.{close}
+use Rattle.text.proofs.Writes.{then, wrote-none, wrote-as}
+use Rattle.text.proofs.Numbers.{less, remainder, decimal-none, decimal-one, decimal-more}
+use Rattle.text.proofs.+put_up_to.{statement}
+use Rattle.text.proofs.put_up_to.Reads as put-up-to
+use Rattle.text.proofs.put_up_to.Kinds as put-up-to-kinds
+use Rattle.text.proofs.+put_up_to.Lts-put_up_to as put-up-to-lts
+use Rattle.text.proofs.put_digit.Reads as put-digit-reads
+use Rattle.text.proofs.+put_up_to.Tie.{close}
 
 abbrev μ-put-up-to : Measures 1 put-up-to-kinds.ps ℕ
 μ-put-up-to κs a = a .1 .1 .1 .0

@@ -1,9 +1,9 @@
 -- `numbered`: the word, the number and the line end, one after the other.
-use Rattle.rendering.proofs.TextWrites.{then}
+use Rattle.text.proofs.Writes.{then}
 use native.Mathlib.Omega.{arith}
 use borrow.Author.Needs.{needs}
-use Rattle.rendering.proofs.lines.numbered.Statement.{statement}
-use Rattle.rendering.proofs.lines.numbered.Tie as tie
+use Rattle.text.proofs.numbered.Statement.{statement}
+use Rattle.text.proofs.numbered.Tie as tie
 
 returns : tie.Need-returns
 returns c =

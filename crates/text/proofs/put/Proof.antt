@@ -1,8 +1,8 @@
 -- `put`: one byte is stored.
-use Rattle.rendering.proofs.TextWrites.{put-one}
+use Rattle.text.proofs.Writes.{put-one}
 use borrow.Author.Needs.{needs}
-use Rattle.rendering.proofs.text.put.Statement.{statement}
-use Rattle.rendering.proofs.text.put.Tie as tie
+use Rattle.text.proofs.put.Statement.{statement}
+use Rattle.text.proofs.put.Tie as tie
 
 returns : tie.Need-returns
 returns c = put-one _ _ _ (c .pre)

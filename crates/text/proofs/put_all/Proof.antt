@@ -4,10 +4,10 @@ use mathlib.Core.Path.{_≡_}
 use Prim.Native.Nat.{_≤_, _-_, _+_}
 use native.Mathlib.Omega.{arith}
 use lib.ListN.{length, take, length-set}
-use Rattle.rendering.specs.Internal.{Wrote}
-use Rattle.rendering.proofs.TextWrites.{copy-none, copy-turn, copy-end}
-use Rattle.rendering.proofs.text.put_all.Statement.{statement}
-use Rattle.rendering.proofs.text.put_all.Tie as tie
+use Rattle.text.specs.Writes.{Wrote}
+use Rattle.text.proofs.Writes.{copy-none, copy-turn, copy-end}
+use Rattle.text.proofs.put_all.Statement.{statement}
+use Rattle.text.proofs.put_all.Tie as tie
 
 abbrev Inv-loop : tie.InvT-loop
 Inv-loop out₀ at text i₀ out i = (i ≤ length text) × (at + length text ≤ length out₀) × (length out ≡ length out₀) × Wrote out₀ out at (at + i) (take i text)

@@ -8,12 +8,12 @@ use lib.Signed.{mag}
 use mir.Syntax.{w64}
 use borrow.Author.Needs.{needs}
 use Rattle.order.proofs.Signed.{negative, not-negative, minus-fits, minus-is, kept-is, casts}
-use Rattle.rendering.specs.Ascii.{ascii}
-use Rattle.rendering.specs.Reports.{cents}
-use Rattle.rendering.proofs.TextWrites.{then, wrote-as}
-use Rattle.rendering.proofs.Cents.{cents-small, minus-text, plain-text}
-use Rattle.rendering.proofs.text.put_cents.Statement.{statement}
-use Rattle.rendering.proofs.text.put_cents.Tie as tie
+use Rattle.text.specs.Ascii.{ascii}
+use Rattle.text.specs.Text.{cents}
+use Rattle.text.proofs.Writes.{then, wrote-as}
+use Rattle.text.proofs.Cents.{cents-small, minus-text, plain-text}
+use Rattle.text.proofs.put_cents.Statement.{statement}
+use Rattle.text.proofs.put_cents.Tie as tie
 
 small : (c : tie.Start) → natAbs (cents (c .args .c)) < 2 ^ 63
 small c = cents-small (c .args .c) (c .pre .1) (c .pre .2)

@@ -1,9 +1,9 @@
 -- `put_field`: a space, and then the number.
-use Rattle.rendering.proofs.TextWrites.{then}
+use Rattle.text.proofs.Writes.{then}
 use native.Mathlib.Omega.{arith}
 use borrow.Author.Needs.{needs}
-use Rattle.rendering.proofs.text.put_field.Statement.{statement}
-use Rattle.rendering.proofs.text.put_field.Tie as tie
+use Rattle.text.proofs.put_field.Statement.{statement}
+use Rattle.text.proofs.put_field.Tie as tie
 
 returns : tie.Need-returns
 returns c = let d = c .before .before .put-decimal .ensures in let p = c .before .before .before .before .before .before .put .ensures in (then p (d .0), omega (arith, p .ends, d .1))
