@@ -4,21 +4,20 @@
 --   rendered-whole                a buffer of `longestReport` places holds every text whole
 use Prim.Native.Nat.{ℕ, _≤_}
 use native.Mathlib.Omega.{arith}
-use mathlib.Core.Path.{_≡_, ap, _∙_}
+use mathlib.Core.Path.{_≡_}
 use mathlib.Core.List.{List}
 use lib.ListN.{length, take}
 use Rattle.limits.specs.Limits.{longestReport}
 use Rattle.text.specs.Renderings.{textAnswer, afterText}
 use Rattle.text.specs.declared.Rendering.{Rendering}
-use Rattle.text.proofs.Rendered.{text-within, text-whole}
+use Rattle.text.proofs.Rendered.{text-by, text-within, text-whole}
 use Rattle.rendering.specs.Reports.{reportOf}
 use Rattle.rendering.specs.Renderings.{renderingOf, afterRendering}
 use Rattle.rendering.proofs.Lengths.{report-fits}
 
-pub rendered-by : (bytes ys buf out : List ℕ) (r : Rendering) → ys ≡ reportOf bytes → r ≡ textAnswer ys (length buf) → out ≡ afterText ys buf
-    → (r ≡ renderingOf bytes (length buf)) × (out ≡ afterRendering bytes buf)
+pub rendered-by : (bytes buf : List ℕ) {ys out : List ℕ} {r : Rendering} → ys ≡ reportOf bytes → (r ≡ textAnswer ys (length buf)) × (out ≡ afterText ys buf) → (r ≡ renderingOf bytes (length buf)) × (out ≡ afterRendering bytes buf)
 unfolding renderingOf afterRendering
-rendered-by bytes ys buf out r e p q = (p ∙ ap (λ (xs : List ℕ). textAnswer xs (length buf)) e, q ∙ ap (λ (xs : List ℕ). afterText xs buf) e)
+rendered-by bytes buf = text-by buf
 
 -- ---- what callers know of the answer
 

@@ -1,5 +1,6 @@
 -- Laws of the call that gives a text into a lent buffer.
 --   text-short, text-done       each answer with its buffer: too short, and written
+--   text-by                     the same text under another name
 --   text-within                 the answered length is within the buffer
 --   text-whole                  a buffer that is long enough holds the text whole
 --   text-taken                  a text that is composed from the start of a space, read off it
@@ -40,6 +41,9 @@ module _ (ys buf : List ℕ) where
   pub text-done : length ys ≤ length buf → (out : List ℕ) → out ≡ written ys buf → Answered (given (length ys)) out
   unfolding textAnswer afterText
   text-done h out w = (lent-enough (given (length ys)) notGiven _ _ h, w ∙ lent-enough (written ys buf) (λ _. buf) _ _ h)
+
+pub text-by : (buf : List ℕ) {ys zs out : List ℕ} {r : Rendering} → ys ≡ zs → (r ≡ textAnswer ys (length buf)) × (out ≡ afterText ys buf) → (r ≡ textAnswer zs (length buf)) × (out ≡ afterText zs buf)
+text-by buf e g = (g .0 ∙ ap (λ (xs : List ℕ). textAnswer xs (length buf)) e, g .1 ∙ ap (λ (xs : List ℕ). afterText xs buf) e)
 
 -- ---- what callers know of the answer
 

@@ -21,8 +21,7 @@ returns : tie.Need-returns
 returns c =
     let p = c .before .before .before .before .before .before in
     let a = p .before .before .before .before .before .args in
-    let g = c .before .before .give .ensures in
-    rendered-by (a .file .now) _ (a .out .now) _ _ (text-taken _ (p .compose .ensures .0) (ap textOf (p .before .before .file-run .ensures) ∙ text-is (a .file .now))) (g .0) (g .1)
+    rendered-by (a .file .now) (a .out .now) (text-taken _ (p .compose .ensures .0) (ap textOf (p .before .before .file-run .ensures) ∙ text-is (a .file .now))) (c .before .before .give .ensures)
 
 pub report-spec : {M : Type 1} → statement M
 report-spec =
