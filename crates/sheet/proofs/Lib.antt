@@ -1,3 +1,4 @@
 pub mod Printable
 pub mod Texts
 pub mod Lengths
+pub mod Examples
