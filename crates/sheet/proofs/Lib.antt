@@ -1,4 +1,4 @@
 pub mod Printable
-pub mod Texts
+pub mod FileTexts
 pub mod Lengths
 pub mod Examples

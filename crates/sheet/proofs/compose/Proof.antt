@@ -1,6 +1,6 @@
 -- `compose`: the refusal's line, or offers and end, one after the other.
 use Rattle.text.proofs.Writes.{then, wrote-as}
-use Rattle.sheet.proofs.Texts.{text-refused, text-sheet}
+use Rattle.sheet.proofs.FileTexts.{text-refused, text-sheet}
 use native.Mathlib.Omega.{arith}
 use borrow.Author.Needs.{needs}
 use Rattle.sheet.proofs.compose.Statement.{statement}
