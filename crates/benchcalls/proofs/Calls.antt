@@ -22,9 +22,9 @@ use Rattle.trialfile.specs.Files.{trialOf, fileChecks, fileRefusal, readingOf}
 use Rattle.trialfile.specs.Writings.{fileLength, writeChecks, writeRefusal, writingOf, afterWriting}
 use Rattle.trialfile.specs.declared.Reading.{Reading}
 use Rattle.trialfile.specs.declared.Writing.{Writing}
+use Rattle.text.specs.declared.Rendering.{Rendering}
 use Rattle.rendering.specs.Reports.{reportOf}
 use Rattle.rendering.specs.Renderings.{renderChecks, renderRefusal, renderingOf}
-use Rattle.rendering.specs.declared.Rendering.{Rendering}
 use Rattle.benchcalls.specs.Calls.{fromFile, lengthWritten, lengthRendered, fromTable}
 use Rattle.benchcalls.proofs.Handed.{handed-number, handed-nothing, handed-out}
 

@@ -38,7 +38,8 @@ use Rattle.trialfile.specs.Files.{fileChecks, trialOf, fileRefusal, readingOf}
 use Rattle.trialfile.specs.Writings.{fileLength, writingOf, afterWriting}
 use Rattle.trialrun.specs.TrialRuns.{trialRun, runCallChecks, runCallRefusal, trialAnswer}
 use Rattle.control.proofs.Answered.{tables-answered, trials-answered}
-use Rattle.rendering.specs.Reports.{cents, recordAt, trialText, refusedText, reportOf}
+use Rattle.text.specs.Text.{cents, refusedText}
+use Rattle.rendering.specs.Reports.{recordAt, trialText, reportOf}
 use Rattle.rendering.specs.Renderings.{renderingOf, afterRendering}
 use Rattle.streams.specs.Programs.{Gives}
 use Rattle.stepdown.proofs.StepByStep as steps

@@ -5,8 +5,8 @@ use Rattle.runs.specs.FullRuns.{acceptedRun}
 use Rattle.words.specs.Words.{bytesOf, signed}
 use Rattle.trialfile.specs.Examples.{wordsW}
 use Rattle.trialrun.specs.TrialRuns.{trialRun}
-use Rattle.rendering.specs.Ascii.{ascii}
-use Rattle.rendering.specs.Text.{printed, decimalUpTo}
+use Rattle.text.specs.Ascii.{ascii}
+use Rattle.text.specs.Text.{printed, decimalUpTo}
 use Rattle.rendering.specs.Reports.{reportOf}
 
 pub w-report : reportOf (bytesOf wordsW) ≡ ascii "trial 3 2 1 2 8\nstep 1 4\nstep 2 2\n0042 rejected 1 1\n7 kept 2 3\nend 1\n"

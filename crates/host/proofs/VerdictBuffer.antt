@@ -10,10 +10,10 @@ use mathlib.Core.List.{List, _++_}
 use Rattle.refusals.specs.Answers.{Checks, answer, firstRefusal, afterwards}
 use Rattle.refusals.specs.Buffers.{tooShort, written}
 use Rattle.refusals.proofs.Answers.{accepted, refused, answer-append, first-passes}
+use Rattle.refusals.proofs.Buffers.{lent-short, lent-enough}
 use Rattle.runs.specs.declared.Decision.{Decision}
 use Rattle.verdicts.specs.Verdicts.{rejectedCount}
 use Rattle.verdicts.proofs.Counted.{count-few}
-use Rattle.trial.proofs.Calls.{lent-short, lent-enough}
 use Rattle.host.specs.Calls.{stepBytes}
 
 module _ (cs : Checks) (places needed : ℕ) where

@@ -13,6 +13,8 @@
 --   headMost, stepLineMost, offerLineMost, endMost     room for each kind of line of a report
 --   stepsEnd                       room for a report's first line and its step lines
 --   longestReport                  room for every report
+--   sheetLineMost                  room for the line of an offer on a buyers' sheet
+--   longestSheet                   room for every sheet
 use Prim.Native.Nat.{ℕ, _+_, _*_}
 
 -- ---- trials
@@ -83,3 +85,11 @@ stepsEnd = headMost + stepLineMost * stepsMost
 
 abbrev pub longestReport : ℕ
 longestReport = stepsEnd + offerLineMost * offersMost + endMost
+
+-- ---- sheets
+
+abbrev pub sheetLineMost : ℕ
+sheetLineMost = digitsMost + 22
+
+abbrev pub longestSheet : ℕ
+longestSheet = sheetLineMost * offersMost + endMost

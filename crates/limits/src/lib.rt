@@ -1,4 +1,4 @@
-// The sizes of trials, tables, files and reports, each named once: specs/Limits.antt says what they are.
+// The sizes of trials, tables, files, reports and sheets, each named once: specs/Limits.antt says what they are.
 
 pub const OFFERS_MOST: usize = 16;
 
@@ -41,3 +41,7 @@ pub const END_MOST: usize = 25;
 pub const STEPS_END: usize = HEAD_MOST + STEP_LINE_MOST * STEPS_MOST;
 
 pub const LONGEST_REPORT: usize = STEPS_END + OFFER_LINE_MOST * OFFERS_MOST + END_MOST;
+
+pub const SHEET_LINE_MOST: usize = DIGITS_MOST + 22;
+
+pub const LONGEST_SHEET: usize = SHEET_LINE_MOST * OFFERS_MOST + END_MOST;

@@ -1,15 +1,28 @@
--- A lent buffer while its first places are written.
+-- A lent buffer: the condition on its places, and what it holds while its first places are written.
+--   lent-short, lent-enough     it has too few places, and it has enough
 --   filled f X g w     the first g places hold f of the first g members of X
 --   filled-start, filled-turn, filled-end     before the first, one more, and after the last
 use Prim.Native.Nat.{ℕ, suc, _+_, _≤_, _<_}
 use native.Mathlib.Omega.{arith}
 use native.Mathlib.Numerals.{add-one}
 use mathlib.Core.Path.{_≡_, refl, sym, ap, ap₂, _∙_}
+use mathlib.Core.Bool.{Bool, cond}
 use mathlib.Core.List.{List, [], _∷_, _++_, map, append-assoc}
 use lib.ListN.{length, getD, take, drop, set, length-map}
 use lib.Seq.{take-suc, drop-cons, set-at, take-all, length-take-le}
+use borrow.Author.Tests.{lt-ltb, le-ltb}
 use Rattle.order.proofs.Lists.{map-more}
-use Rattle.refusals.specs.Buffers.{written}
+use Rattle.refusals.specs.Answers.{answer}
+use Rattle.refusals.specs.Buffers.{tooShort, written}
+
+module _ {A : Type 0} (done : A) (refusing : ℕ → A) (places needed : ℕ) where
+  pub lent-short : places < needed → refusing 12 ≡ answer (tooShort places needed) done refusing
+  unfolding answer
+  lent-short h = sym (ap (λ (b : Bool). cond b (refusing 12) done) (lt-ltb places needed h))
+
+  pub lent-enough : needed ≤ places → done ≡ answer (tooShort places needed) done refusing
+  unfolding answer
+  lent-enough h = sym (ap (λ (b : Bool). cond b (refusing 12) done) (le-ltb places needed h))
 
 -- the buffer once g values are written
 pub filled : {A B : Type 0} → (A → B) → List A → ℕ → List B → List B

@@ -1,6 +1,3 @@
-pub mod TextWrites
-pub mod Numbers
-pub mod Cents
 pub mod ReportLines
 pub mod Values
 pub mod PrintableFiles

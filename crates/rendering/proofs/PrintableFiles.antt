@@ -1,6 +1,7 @@
 -- What is known of an accepted file, so that its text fits and nothing is cut off.
 --   wholeCents x         the value is a whole number of cents, within what f64 holds exactly
 --   printed-cents        the printed number of cents is the critical value
+--   trial-printable      an accepted trial with its full run can be printed
 --   printable-file       what the full run of an accepted file answers can be printed
 use Prim.Native.Nat.{ℕ, _-_, _^_, _≤_, _<_}
 use native.Mathlib.Omega.{arith}
@@ -8,7 +9,6 @@ use mathlib.Core.Path.{_≡_, sym, ap, _∙_, subst}
 use mathlib.Core.Bool.{Bool, _&&_}
 use mathlib.Core.List.{List}
 use lib.ListN.{length, getD, length-map, replicate, List·getD-append}
-use lib.Seq.{getD-take}
 use lib.Dec.{T, le→leb, lt→ltb}
 use lib.IntN.{ℤ, pos, negsuc, natAbs}
 use lib.Ieee.{Float, nan, binary64, fits, inSigned, inFloat, ofInt}
@@ -31,20 +31,20 @@ use Rattle.runs.specs.declared.Step.{Step}
 use Rattle.runs.proofs.Termination.{steps-few}
 use Rattle.trial.specs.Exchange.{rowTotal, rowOf, trialRows, tableOf}
 use Rattle.trial.specs.Refusals.{trialRefusal}
-use Rattle.trial.specs.Record.{settingOf}
 use Rattle.trial.specs.declared.Trial.{Trial}
 use Rattle.trial.proofs.Accepted.{Accepted, accepted}
 use Rattle.trial.proofs.Tables.{rowOf-all, tableOf-rows}
 use Rattle.words.specs.Words.{wordsOf}
 use Rattle.trialfile.specs.Files.{trialOf, fileChecks, fileRefusal}
 use Rattle.trialfile.proofs.RoundTrip.{read-accepted}
-use Rattle.trialfile.proofs.Written.{printed}
+use Rattle.trialfile.proofs.Inputs.{digits-few}
 use Rattle.trialrun.specs.TrialRuns.{trialRun}
 use Rattle.trialrun.specs.FileRuns.{acceptedFile, refusedFile, fileRun}
 use Rattle.trialrun.specs.declared.FileRun.{FileRun}
-use Rattle.rendering.specs.Reports.{cents, recordAt}
+use Rattle.text.specs.Text.{cents}
+use Rattle.rendering.specs.Reports.{recordAt}
 use Rattle.rendering.specs.Internal.{Printable, PrintableFile}
-use Rattle.rendering.proofs.Cents.{cents-exact}
+use Rattle.text.proofs.Cents.{cents-exact}
 use Rattle.rendering.proofs.Values.{records-hold}
 use Rattle.refusals.proofs.Answers as answers
 
@@ -107,12 +107,12 @@ printed-cents t h i l = let p = run-printable t (accepted t h) in cents-exact (r
 
 -- ---- the file
 
-trial-printable : (t : Trial) → trialRefusal t ≡ 0 → PrintableFile (acceptedFile t)
+pub trial-printable : (t : Trial) → trialRefusal t ≡ 0 → PrintableFile (acceptedFile t)
 trial-printable t h =
     let acc = accepted t h in
     record {
       offers-most = acc .offers-most;
-      digits-few = λ i l. omega (arith, getD-take (t .shape .offers) (t .labels .digits) i 0 l, printed (getD (settingOf t .codes) i 0) (getD (settingOf t .digits) i 0) (acc .labels-pass i l .0) .1);
+      digits-few = digits-few t acc;
       run-printable = run-printable t acc;
     }
 

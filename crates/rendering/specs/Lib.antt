@@ -1,5 +1,3 @@
-pub mod Ascii
-pub mod Text
 pub mod Reports
 pub mod Renderings
 pub mod Internal

@@ -1,5 +1,4 @@
 -- The report's text (document 01, "Report and C call"). Definitions only.
---   cents c                the whole number of cents of a critical value
 --   headLine s r           figures of an offer, offers and k of a shape, e and M of a full run
 --   stepLine m             a step's number and critical value
 --   verdictWord v          the word for a verdict
@@ -7,16 +6,13 @@
 --   offerLine ..           an offer: printed code, verdict, step, count
 --   recordAt, decisionAt   the record of step i and the verdict of offer i, both from 0
 --   stepLineAt, offerLineAt     their lines
---   linesTo n f            the lines f 0 to f (n - 1), one after the other
 --   trialText t r          the report of a trial with the full run r
---   refusedText n          the text of a refusal
 --   reportOf bytes         all that is printed for a file: the report of its trial, or its refusal
-use Prim.Native.Nat.{ℕ, zero, suc}
+use Prim.Native.Nat.{ℕ}
 use Prim.Native.String.{String}
 use mathlib.Core.List.{List, [], _∷_, _++_}
 use lib.ListN.{getD}
-use lib.IntN.{ℤ}
-use lib.Ieee.{Float, nan, toSigned}
+use lib.Ieee.{nan}
 use Rattle.refusals.specs.Answers.{answer}
 use Rattle.runs.specs.FullRuns.{acceptedRun}
 use Rattle.runs.specs.declared.Record.{Record}
@@ -32,12 +28,8 @@ use Rattle.trial.specs.declared.Trial.{Trial}
 use Rattle.words.specs.Words.{wordsOf}
 use Rattle.trialfile.specs.Files.{trialOf, fileChecks}
 use Rattle.trialrun.specs.TrialRuns.{trialRun}
-use Rattle.rendering.specs.Ascii.{ascii}
-use Rattle.rendering.specs.Text.{printed, decimal, decimalInt, line}
-
--- a critical value of a trial is a whole number of cents, and nothing is cut off (`cents-exact`)
-abbrev pub cents : Float → ℤ
-cents c = toSigned 63 c
+use Rattle.text.specs.Ascii.{ascii}
+use Rattle.text.specs.Text.{printed, decimal, decimalInt, cents, line, linesTo, refusedText}
 
 abbrev pub headLine : Shape → FullRun → List ℕ
 headLine s r = line (ascii "trial") (decimal (unitsOf (s .design)) ∷ decimal (s .offers) ∷ decimal (s .k) ∷ decimal (r .e) ∷ decimal (r .rows) ∷ [])
@@ -55,10 +47,6 @@ verdictStep last (Kept c) = last
 
 abbrev pub offerLine : ℕ → ℕ → Verdict → ℕ → ℕ → List ℕ
 offerLine code digits v last n = line (printed digits code) (ascii (verdictWord v) ∷ decimal (verdictStep last v) ∷ decimal n ∷ [])
-
-unfoldable pub linesTo : ℕ → (ℕ → List ℕ) → List ℕ
-linesTo zero f = []
-linesTo (suc n) f = linesTo n f ++ f n
 
 -- the line of step i and of offer i, from 0; no line looks beyond the arrays' ends
 abbrev pub recordAt : FullRun → ℕ → Record
@@ -80,9 +68,6 @@ trialText t r =
     ++ (linesTo (r .steps) (stepLineAt r)
     ++ (linesTo (t .shape .offers) (offerLineAt (t .labels) r)
     ++ line (ascii "end") (decimal (rejectedCount (t .shape .offers) (r .decisions)) ∷ [])))
-
-abbrev pub refusedText : ℕ → List ℕ
-refusedText n = line (ascii "refused") (decimal n ∷ [])
 
 unfoldable pub reportOf : List ℕ → List ℕ
 unfolding answer fileChecks trialOf wordsOf trialRun acceptedRun trialText

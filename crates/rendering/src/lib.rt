@@ -1,21 +1,16 @@
 // The report of a trial file, as text (document 01, "Report and C call"). The definitions are in specs/, their laws in proofs/.
 mod lines; // the lines of a report
-mod text; // words and numbers in a byte buffer
 
 use limits::LONGEST_REPORT;
+use text::Rendering;
 use trialrun::FileRun;
 ghost use mathlib.Core.Path.{_≡_};
 ghost use Prim.Native.Nat.{_≤_};
 ghost use lib.ListN.{length};
 ghost use Rattle.limits.specs.Limits.{longestReport};
+ghost use Rattle.text.specs.Writes.{Wrote};
 ghost use Rattle.rendering.specs.Renderings.{renderingOf, afterRendering};
-ghost use Rattle.rendering.specs.Internal.{Wrote, textOf, PrintableFile};
-
-// What rendering answers: 0 and the length of the text, or 12 and 0 where the buffer is too short for it.
-pub struct Rendering {
-    pub refusal: u32,
-    pub length: usize,
-}
+ghost use Rattle.rendering.specs.Internal.{textOf, PrintableFile};
 
 // the text for what a file's full run answers
 fn compose(out: &mut [u8], f: FileRun) -> usize
@@ -25,7 +20,7 @@ fn compose(out: &mut [u8], f: FileRun) -> usize
     let run = f.run;
     let refusal = run.refusal;
     if refusal != 0 {
-        return lines::numbered(out, 0, b"refused", refusal as usize);
+        return text::numbered(out, 0, b"refused", refusal as usize);
     }
     let t = f.trial;
     let shape = t.shape;
@@ -35,7 +30,7 @@ fn compose(out: &mut [u8], f: FileRun) -> usize
     let at2 = lines::offers(out, at1, labels, shape.offers, run);
     let decisions = run.decisions;
     let n = verdicts::rejected_count(decisions, shape.offers);
-    lines::numbered(out, at2, b"end", n)
+    text::numbered(out, at2, b"end", n)
 }
 
 // The report of a file, or its refusal, as text into the buffer's first places. Where the buffer is too short it is unchanged.
@@ -46,15 +41,5 @@ pub fn report(file: &[u8], out: &mut [u8]) -> Rendering
     let f = trialrun::file_run(file);
     let mut space = [0u8; LONGEST_REPORT];
     let n = compose(&mut space, f);
-    if out.len() < n {
-        return Rendering {
-            refusal: 12,
-            length: 0,
-        };
-    }
-    text::put_all(out, 0, &space[..n]);
-    Rendering {
-        refusal: 0,
-        length: n,
-    }
+    text::give(&space[..n], out)
 }

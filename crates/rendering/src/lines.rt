@@ -1,19 +1,19 @@
 // The lines of a report, each put after the first `at` bytes.
-use crate::text;
 use runs::FullRun;
 use runs::Record;
 use runs::Verdict;
 use trial::Labels;
 use trial::Shape;
-ghost use mathlib.Core.List.{[], _∷_, _++_};
+ghost use mathlib.Core.List.{_++_};
 ghost use Prim.Native.Nat.{_+_, _*_, _≤_};
 ghost use lib.ListN.{length};
 ghost use lib.Dec.{T};
 ghost use lib.Ieee.{binary64, fits, inSigned};
-ghost use Rattle.rendering.specs.Ascii.{ascii};
-ghost use Rattle.rendering.specs.Text.{decimal, line};
-ghost use Rattle.rendering.specs.Reports.{headLine, stepLine, verdictWord, verdictStep, offerLine, linesTo, stepLineAt, offerLineAt};
-ghost use Rattle.rendering.specs.Internal.{Wrote, Printable, FewDigits};
+ghost use Rattle.text.specs.Ascii.{ascii};
+ghost use Rattle.text.specs.Text.{decimal, linesTo};
+ghost use Rattle.text.specs.Writes.{Wrote, FewDigits};
+ghost use Rattle.rendering.specs.Reports.{headLine, stepLine, verdictWord, verdictStep, offerLine, stepLineAt, offerLineAt};
+ghost use Rattle.rendering.specs.Internal.{Printable};
 ghost use Rattle.limits.specs.Limits.{offersMost, digitsMost, stepsMost, headMost, stepLineMost, offerLineMost, stepsEnd, longestReport};
 
 // figures of an offer, offers, k, e and M
@@ -78,16 +78,6 @@ fn offer(
     let at3 = verdict(out, at2, v, last);
     let at4 = text::put_field(out, at3, count);
     text::put(out, at4, b'\n')
-}
-
-// a word, a number and a line end
-pub(crate) fn numbered(out: &mut [u8], at: usize, word: &[u8], n: usize) -> usize
-    requires { ⌜ at + length (now word) + 22 ≤ length (now out) ⌝ }
-    ensures { λ r. ⌜ Wrote (now (out .entry)) (now (out .exit)) at r (line (now (word .entry)) (decimal n ∷ [])) × (r ≤ at + length (now (word .entry)) + 22) ⌝ }
-{
-    let at1 = text::put_all(out, at, word);
-    let at2 = text::put_field(out, at1, n);
-    text::put(out, at2, b'\n')
 }
 
 pub(crate) fn steps(out: &mut [u8], at: usize, run: FullRun) -> usize

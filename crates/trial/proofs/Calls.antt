@@ -1,6 +1,5 @@
 -- Laws of the calls that take a trial.
 --   turned-away, passed-on           any such call: the record is turned away, or else the later conditions decide
---   lent-short, lent-enough          the condition on a lent buffer
 --   total-most                       how many places a table needs at most
 --   fill-allowed, fill-done          what the code fills: it may, and that is the table
 --   call-refused, -short, -done      each answer of the table's call with its buffer: the record is turned away, 12, the table is written
@@ -11,14 +10,13 @@ use Prim.Native.Nat.{ℕ, _*_, _≤_, _<_}
 use native.Mathlib.Omega.{arith}
 use native.Mathlib.Nat.{mul-le-mul}
 use mathlib.Core.Path.{_≡_, sym, ap, ap₂, _∙_}
-use mathlib.Core.Bool.{Bool, cond}
 use mathlib.Core.List.{List, _++_}
 use lib.ListN.{length}
 use lib.Ieee.{Float}
-use borrow.Author.Tests.{lt-ltb, le-ltb}
 use Rattle.refusals.specs.Answers.{Checks, answer, firstRefusal}
 use Rattle.refusals.specs.Buffers.{tooShort, written}
 use Rattle.refusals.proofs.Answers.{refused, answer-append, answer-map}
+use Rattle.refusals.proofs.Buffers.{lent-short, lent-enough}
 use Rattle.limits.specs.Limits.{figuresMost, trialTableMost}
 use Rattle.trial.specs.Designs.{unitsOf, rowCount}
 use Rattle.trial.specs.Exchange.{rowTotal, tableOf}
@@ -43,15 +41,6 @@ module _ {A : Type 0} (done : A) (refusing : ℕ → A) where
     pub passed-on : r ≡ 0 → answer later done refusing ≡ answer (trialChecks t ++ later) done refusing
     unfolding trialRefusal
     passed-on h = answers.accepted (answer later done refusing) refusing (trialChecks t) r e h ∙ sym (answer-append (trialChecks t) later done refusing)
-
-  module _ (places needed : ℕ) where
-    pub lent-short : places < needed → refusing 12 ≡ answer (tooShort places needed) done refusing
-    unfolding answer
-    lent-short h = sym (ap (λ (b : Bool). cond b (refusing 12) done) (lt-ltb places needed h))
-
-    pub lent-enough : needed ≤ places → done ≡ answer (tooShort places needed) done refusing
-    unfolding answer
-    lent-enough h = sym (ap (λ (b : Bool). cond b (refusing 12) done) (le-ltb places needed h))
 
 pub known : (t : Trial) (r : ℕ) → r ≡ trialRefusal t → r ≡ 0 → Accepted t
 known t r e h = accepted t (sym e ∙ h)

@@ -8,5 +8,6 @@ pub mod Written
 pub mod RoundTrip
 pub mod Taken
 pub mod Writes
+pub mod Inputs
 pub mod Unused
 pub mod Examples

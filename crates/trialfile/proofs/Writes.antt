@@ -14,12 +14,13 @@ use Rattle.order.specs.Lists.{tabulate}
 use Rattle.order.proofs.Lists.{tabulate-length, tabulate-same}
 use Rattle.refusals.specs.Answers.{Checks}
 use Rattle.refusals.specs.Buffers.{tooShort, written}
+use Rattle.refusals.proofs.Buffers.{lent-short, lent-enough}
 use Rattle.trial.specs.Designs.{unitsOf}
 use Rattle.trial.specs.Record.{ArrayLengths, figureCount, contents}
 use Rattle.trial.specs.Refusals.{nth, trialRefusal}
 use Rattle.trial.specs.declared.Trial.{Trial}
 use Rattle.trial.proofs.Accepted.{accepted}
-use Rattle.trial.proofs.Calls.{turned-away, passed-on, lent-short, lent-enough}
+use Rattle.trial.proofs.Calls.{turned-away, passed-on}
 use Rattle.words.specs.Words.{wordBytes, bytesOf, levelWord, offerWord, differenceWord, endWord}
 use Rattle.trialfile.specs.Layouts.{layoutOf}
 use Rattle.words.specs.Words.{shapeWordOf}

@@ -25,6 +25,7 @@ use Rattle.refusals.specs.Answers.{Checks, answer}
 use Rattle.refusals.specs.Buffers.{tooShort, written, cleared}
 use Rattle.refusals.specs.Limits.{badSizes, allowance}
 use Rattle.refusals.proofs.Answers.{none-first, first-passes, answer-append, accepted}
+use Rattle.refusals.proofs.Buffers.{lent-short, lent-enough}
 use Rattle.refusals.proofs.Limits.{neither, within}
 use Rattle.runs.specs.Stepdown.{fullRun}
 use Rattle.runs.specs.FullRuns.{acceptedRun, refusedRun}
@@ -39,7 +40,7 @@ use Rattle.trial.specs.declared.TableSize.{TableSize}
 use Rattle.trial.proofs.Accepted.{Accepted}
 use Rattle.trial.proofs.Tables.{trialRows-sound, rowTotal-some}
 use Rattle.trial.proofs.Places.{tableOf-length}
-use Rattle.trial.proofs.Calls.{turned-away, passed-on, lent-short, lent-enough, known, total-most, Sized, sized}
+use Rattle.trial.proofs.Calls.{turned-away, passed-on, known, total-most, Sized, sized}
 use Rattle.trialrun.specs.TrialRuns.{trialRun, runCallChecks, trialAnswer, runTable, runWork}
 
 -- ---- the table of an accepted trial

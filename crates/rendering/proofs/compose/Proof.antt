@@ -1,5 +1,5 @@
 -- `compose`: the refusal's line, or head, steps, offers and end, one after the other.
-use Rattle.rendering.proofs.TextWrites.{then, wrote-as}
+use Rattle.text.proofs.Writes.{then, wrote-as}
 use Rattle.rendering.proofs.FileTexts.{text-refused, text-report}
 use native.Mathlib.Omega.{arith}
 use borrow.Author.Needs.{needs}

@@ -8,9 +8,9 @@ use lib.Seq.{length-take-le}
 use borrow.Author.Needs.{needs}
 use Rattle.limits.specs.Limits.{inputRoom}
 use Rattle.streams.proofs.Programs.{prints}
+use Rattle.text.specs.declared.Rendering.{Rendering}
 use Rattle.rendering.specs.Reports.{reportOf}
 use Rattle.rendering.specs.Renderings.{renderingOf}
-use Rattle.rendering.specs.declared.Rendering.{Rendering}
 use Rattle.rendering.proofs.Rendered.{rendered-within, rendered-whole}
 use Rattle.rendering.proofs.Inputs.{cut-off}
 use Rattle.report.proofs.main.Statement.{statement}

@@ -1,7 +1,7 @@
 -- `head`: the word and the five numbers, one after the other.
-use Rattle.rendering.specs.Ascii.{ascii}
-use Rattle.rendering.specs.Text.{decimal}
-use Rattle.rendering.proofs.TextWrites.{then, wrote-as}
+use Rattle.text.specs.Ascii.{ascii}
+use Rattle.text.specs.Text.{decimal}
+use Rattle.text.proofs.Writes.{then, wrote-as}
 use Prim.Native.Nat.{ℕ}
 use mathlib.Core.Path.{ap}
 use mathlib.Core.List.{_++_}

@@ -1,6 +1,6 @@
 -- `offer`: the parts of the line, one after the other.
 use Rattle.rendering.proofs.ReportLines.{offer-is}
-use Rattle.rendering.proofs.TextWrites.{then, wrote-as}
+use Rattle.text.proofs.Writes.{then, wrote-as}
 use native.Mathlib.Omega.{arith}
 use borrow.Author.Needs.{needs}
 use Rattle.rendering.proofs.lines.offer.Statement.{statement}

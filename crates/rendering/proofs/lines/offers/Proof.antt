@@ -1,9 +1,10 @@
 -- `offers`: the invariant is the text of the lines so far, each of at most `offerLineMost` bytes.
 use Rattle.limits.specs.Limits.{offersMost, offerLineMost, stepsEnd, longestReport}
-use Rattle.rendering.specs.Reports.{linesTo, offerLineAt}
-use Rattle.rendering.specs.Internal.{Wrote, FewDigits}
-use Rattle.rendering.proofs.TextWrites.{wrote-none, then, wrote-as}
-use Rattle.rendering.proofs.ReportLines.{lines-more, lines-all, ends}
+use Rattle.text.specs.Text.{linesTo}
+use Rattle.text.specs.Writes.{Wrote, FewDigits}
+use Rattle.rendering.specs.Reports.{offerLineAt}
+use Rattle.text.proofs.Writes.{wrote-none, then, wrote-as}
+use Rattle.text.proofs.Lines.{lines-more, lines-all, ends}
 use lib.ListN.{length}
 use Prim.Native.Nat.{_+_, _*_, _-_, _≤_}
 use borrow.Author.Needs.{needs}

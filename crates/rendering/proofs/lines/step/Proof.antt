@@ -1,5 +1,5 @@
 -- `step`: the parts of the line, one after the other.
-use Rattle.rendering.proofs.TextWrites.{then}
+use Rattle.text.proofs.Writes.{then}
 use native.Mathlib.Omega.{arith}
 use borrow.Author.Needs.{needs}
 use Rattle.rendering.proofs.lines.step.Statement.{statement}

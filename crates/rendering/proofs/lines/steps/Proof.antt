@@ -1,9 +1,11 @@
 -- `steps`: the invariant is the text of the lines so far, each of at most `stepLineMost` bytes.
 use Rattle.limits.specs.Limits.{headMost, stepLineMost, longestReport}
-use Rattle.rendering.specs.Reports.{linesTo, stepLineAt}
-use Rattle.rendering.specs.Internal.{Wrote, Printable}
-use Rattle.rendering.proofs.TextWrites.{wrote-none, then, wrote-as}
-use Rattle.rendering.proofs.ReportLines.{lines-more, lines-all, ends}
+use Rattle.text.specs.Text.{linesTo}
+use Rattle.text.specs.Writes.{Wrote}
+use Rattle.rendering.specs.Reports.{stepLineAt}
+use Rattle.rendering.specs.Internal.{Printable}
+use Rattle.text.proofs.Writes.{wrote-none, then, wrote-as}
+use Rattle.text.proofs.Lines.{lines-more, lines-all, ends}
 use lib.ListN.{length}
 use Prim.Native.Nat.{_+_, _*_, _-_, _≤_}
 use borrow.Author.Needs.{needs}

@@ -1,7 +1,7 @@
 -- `verdict`: in each case the word, and then the step after a space.
 use native.Mathlib.Omega.{arith}
 use Rattle.rendering.proofs.ReportLines.{verdict-is}
-use Rattle.rendering.proofs.TextWrites.{then, wrote-as}
+use Rattle.text.proofs.Writes.{then, wrote-as}
 use borrow.Author.Needs.{needs}
 use Rattle.rendering.proofs.lines.verdict.Statement.{statement}
 use Rattle.rendering.proofs.lines.verdict.Tie as tie

@@ -1,0 +1,4 @@
+pub mod Printable
+pub mod FileTexts
+pub mod Lengths
+pub mod Examples

@@ -1,0 +1,2 @@
+pub mod TrialFigures
+pub mod FileFigures
