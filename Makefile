@@ -1,16 +1,23 @@
 # make run      proves and builds the report program, and prints the report of samples/w.trial; tells each crate as it is proved, on standard error
+# make sheet    the same for the program adjusted: the buyers' sheet of samples/w.trial
 # make test     the one test command: `rt ci`, which proves every crate of crates.txt from nothing, tries the must-fail edits
 #               and runs the programs; then, on what it has proved, the Python tests: the reference implementation, the tools,
 #               the C calls and the files of the test program
 # make vectors  writes the files of the test program again: its cases, and the answers as the reference has them
 # make host     builds the sample host in C: `target/host samples/w.trial` then prints the verdicts of a trial file
 # make bench    compares the library with the plain C of tests/baseline, gcc -O3 (docs/BENCHMARKS.md); `rt staticlib` compiles at -O3 too
-.PHONY: run test vectors host bench
+.PHONY: run sheet test vectors host bench
 SHELL = bash
+# proves and builds a program, and tells each crate as it is proved
+prove = mkdir -p target && set -o pipefail && { rt check $(1) 2>&1 | tee target/run.log | sed -nu 's/^rt: \([^ ]* proved ([0-9]* s)\)$$/\1/p' >&2 || { cat target/run.log >&2; exit 1; }; }
+
 run:
-	@mkdir -p target
-	@set -o pipefail; rt check report 2>&1 | tee target/run.log | sed -nu 's/^rt: \([^ ]* proved ([0-9]* s)\)$$/\1/p' >&2 || { cat target/run.log >&2; exit 1; }
+	@$(call prove,report)
 	@target/bin/report < samples/w.trial
+
+sheet:
+	@$(call prove,adjusted)
+	@target/bin/adjusted < samples/w.trial
 
 test:
 	@tests/run.sh

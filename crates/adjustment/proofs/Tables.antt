@@ -1,5 +1,4 @@
 -- Adjusted figures of accepted tables: of all columns, each of them live.
---   rejectedIn t rows columns k observed e j     the method at e, on a table t, rejects column j
 --   table-law           a column's figure is at most e exactly where the method rejects it at e
 --   table-length, table-most     there is a figure for each column, and it is at most M
 --   table-stays         loosening: a column that is rejected at e is rejected at every larger one
@@ -26,14 +25,11 @@ use Rattle.runs.specs.declared.Verdict.the-variants.{Kept}
 use Rattle.runs.proofs.Start.{full-size}
 use Rattle.stepdown.specs.Refusals.{tableRefusal}
 use Rattle.stepdown.proofs.Accepted as tables
-use Rattle.adjustment.specs.Adjusted.{rejectedAt, adjustedFigure, adjustedFigures, tableFigures}
+use Rattle.adjustment.specs.Adjusted.{rejectedAt, adjustedFigure, adjustedFigures, rejectedIn, tableFigures}
 use Rattle.adjustment.specs.Passes.{maximumPass, kMaxPass}
 use Rattle.adjustment.proofs.Figures.{figure-law, figure-most, stays-rejected}
 use Rattle.adjustment.proofs.Passing.{kMaxPass-agrees, maximumPass-agrees}
 use Rattle.adjustment.proofs.Accepted.{Accepted, levelled, accepted-sound}
-
-abbrev pub rejectedIn : List Float → ℕ → ℕ → ℕ → ℕ → ℕ → ℕ → Bool
-rejectedIn t rows columns k observed e j = rejectedAt (rowsOf rows columns t) rows columns k observed (fullMask columns) e j
 
 module _ (t : List Float) (rows columns k observed : ℕ) where
   pub table-length : length (tableFigures t rows columns k observed) ≡ columns

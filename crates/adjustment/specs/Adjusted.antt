@@ -3,7 +3,8 @@
 --   rejectedAt X rows columns k observed live e j     the method at e, on the rows X of a table, rejects column j
 --   adjustedFigure X rows columns k observed live j   column j's figure: the least e from 0 to M - 1 at which it does, or M
 --   adjustedFigures X rows columns k observed live    those of all columns
---   tableFigures t rows columns k observed            those of a table t, all of whose columns are live
+--   rejectedIn t rows columns k observed e j          the method at e rejects column j of a table t, all of whose columns are live
+--   tableFigures t rows columns k observed            the figures of all its columns
 use Prim.Native.Nat.{ℕ, zero, suc}
 use mathlib.Core.Bool.{Bool, cond}
 use mathlib.Core.List.{List}
@@ -32,6 +33,9 @@ adjustedFigure X rows columns k observed live j = leastBelow rows (λ e. rejecte
 unfoldable pub adjustedFigures : List (List Float) → ℕ → ℕ → ℕ → ℕ → ℕ → List ℕ
 unfolding tabulate adjustedFigure
 adjustedFigures X rows columns k observed live = tabulate columns (λ j. adjustedFigure X rows columns k observed live j)
+
+abbrev pub rejectedIn : List Float → ℕ → ℕ → ℕ → ℕ → ℕ → ℕ → Bool
+rejectedIn t rows columns k observed e j = rejectedAt (rowsOf rows columns t) rows columns k observed (fullMask columns) e j
 
 unfoldable pub tableFigures : List Float → ℕ → ℕ → ℕ → ℕ → List ℕ
 unfolding adjustedFigures rowsOf

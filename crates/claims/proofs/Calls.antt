@@ -25,6 +25,10 @@ use Rattle.stepdown.specs.Runs.{begun, nextRun, stepRecord}
 use Rattle.stepdown.specs.Refusals.{badShape, badValue, tableChecks, tableRunChecks, tableRunRefusal, beginChecks, spoiled, stepChecks, stepRefusal}
 use Rattle.stepdown.specs.Answers.{told, toldByBeginning, toldByStep, beginAnswer, stepAnswer, fullAnswer}
 use Rattle.stepdown.specs.declared.Run.{Run}
+use Rattle.adjustment.specs.Adjusted.{tableFigures}
+use Rattle.adjustment.specs.Answers as adjusted
+use Rattle.adjustment.specs.Answers.{figureCallChecks, figureCallRefusal, acceptedFigures, refusedFigures, figuresAnswer}
+use Rattle.adjustment.specs.declared.Adjusted.{Adjusted}
 use Rattle.verdicts.specs.Verdicts.{rejectedCount}
 use Rattle.trial.specs.Exchange.{rowTotal, tableOf}
 use Rattle.trial.specs.Designs.{designChecks}
@@ -93,6 +97,17 @@ module _ (rows columns k a b observed : ℕ) where
   unfolding tableChecks
   table-order t places = refl
 
+-- the adjusted figures of a table: no level is taken, so 3 is skipped: 4, 9, 10, 11, then 12
+pub figures-order : (t : List Float) (rows columns k observed places : ℕ) → figureCallChecks t rows columns k observed places ≡
+    (badShape rows columns k, r4)
+    ∷ (not (eqb (length t) (rows * columns)), r9)
+    ∷ (leb rows observed, r10)
+    ∷ (badValue t, r11)
+    ∷ (ltb places rows, r12)
+    ∷ []
+unfolding adjusted.figureChecks
+figures-order t rows columns k observed places = refl
+
 -- a step: 14, 13, 9, 11, 12
 pub step-order : (t : List Float) (r : Run) (places : ℕ) → stepChecks t r places ≡
     (spoiled r, r14)
@@ -123,6 +138,10 @@ step-told = calls.step-told
 pub full-number : (t : List Float) (rows columns k a b observed places : ℕ) → fullAnswer t rows columns k a b observed places .refusal ≡ tableRunRefusal t rows columns k a b observed places
 unfolding fullAnswer tableRunRefusal acceptedRun
 full-number t rows columns k a b observed places = answer-map (λ (f : FullRun). f .refusal) (tableRunChecks t rows columns k a b observed places) (acceptedRun (tableRun t rows columns k a b observed)) refusedRun
+
+pub figures-number : (t : List Float) (rows columns k observed places : ℕ) → figuresAnswer t rows columns k observed places .refusal ≡ figureCallRefusal t rows columns k observed places
+unfolding figuresAnswer figureCallRefusal
+figures-number t rows columns k observed places = answer-map (λ (f : Adjusted). f .refusal) (figureCallChecks t rows columns k observed places) (acceptedFigures rows (tableFigures t rows columns k observed)) refusedFigures
 
 pub trial-number : (t : Trial) (places work : ℕ) → trialAnswer t places work .refusal ≡ runCallRefusal t places work
 unfolding trialAnswer runCallRefusal acceptedRun

@@ -7,17 +7,20 @@ use mathlib.Core.Path.{_≡_, refl, _∙_}
 use mathlib.Core.Bool.{Bool, true}
 use mathlib.Core.List.{List, map}
 use mathlib.Core.Logic.{_↔_, _⊎_}
-use lib.ListN.{length, take}
+use lib.ListN.{length, getD, take}
+use lib.Dec.{T}
 use lib.Ieee.{Float, binary64, ofInt, toSigned}
 use Rattle.limits.specs.Limits.{inputRoom, longestReport}
+use Rattle.order.specs.Order.{plusZero}
 use Rattle.order.specs.Lists.{rowsOf}
-use Rattle.refusals.specs.Answers.{Checks, First, afterwards}
+use Rattle.refusals.specs.Answers.{Checks, First, firstRefusal, afterwards}
 use Rattle.refusals.specs.Limits.{allowance}
 use Rattle.refusals.specs.Buffers.{cleared}
 use Rattle.refusals.proofs.Answers.{Answered, answered}
-use Rattle.columns.specs.Columns.{size}
+use Rattle.columns.specs.Columns.{size, everyColumn}
 use Rattle.runs.specs.Stepdown.{rejectedSet, leftOver, newlyRejected}
-use Rattle.runs.specs.FullRuns.{acceptedRun, refusedRun, verdictsIn}
+use Rattle.runs.specs.FullRuns.{acceptedRun, refusedRun, verdictsIn, isRejected}
+use Rattle.runs.specs.declared.Verdict.the-variants.{Kept}
 use Rattle.runs.specs.Tables.{tableRun}
 use Rattle.runs.specs.Examples.{examples}
 use Rattle.runs.proofs.Examples.{all-examples}
@@ -26,6 +29,13 @@ use Rattle.stepdown.specs.Refusals.{tableRefusal, tableRunChecks, tableRunRefus
 use Rattle.stepdown.specs.Answers.{fullAnswer, fullWork}
 use Rattle.stepdown.specs.Stepping.{stepped, steppedRecords, lastRun}
 use Rattle.stepdown.specs.declared.Run.{Run}
+use Rattle.adjustment.specs.Adjusted.{rejectedIn, tableFigures}
+use Rattle.adjustment.specs.Passes.{maximumPass, kMaxPass}
+use Rattle.adjustment.specs.Answers.{figureChecks, figureCallChecks, figureCallRefusal, acceptedFigures, refusedFigures, figuresAnswer, figuresWork}
+use Rattle.adjustment.specs.Examples as adjusted
+use Rattle.adjustment.proofs.Accepted.{accepted}
+use Rattle.adjustment.proofs.Tables as figures
+use Rattle.adjustment.proofs.Examples as figure-examples
 use Rattle.trial.specs.Designs.{entryOf}
 use Rattle.trial.specs.Record.{ArrayLengths, trimmed, Same, Keeps}
 use Rattle.trial.specs.Exchange.{byOffer, rowOf, rowTotal}
@@ -147,3 +157,40 @@ pub tables : (rows columns k a b : ℕ) (t : List Float) (idle : ℕ → Bool) (
     → (places : ℕ) → rows ≤ places
     → runsThatReject k rows idle (λ g. verdictsIn columns (fullAnswer (runs g) rows columns k a b g places)) ≤ allowance rows a b
 tables = tables-answered
+
+-- ==== Adjusted figures (document 02, §1) ====
+
+-- of an accepted table the call answers M and, for each column, the least e from 0 to M - 1 at which the method rejects it, or M; the work buffer is cleared
+module _ (t : List Float) (rows columns k observed : ℕ) where
+  pub table-figures : (places : ℕ) → figureCallRefusal t rows columns k observed places ≡ 0 → figuresAnswer t rows columns k observed places ≡ acceptedFigures rows (tableFigures t rows columns k observed)
+  unfolding figuresAnswer figureCallRefusal
+  table-figures places h = answered (figureCallChecks t rows columns k observed places) _ refusedFigures .gives h
+
+  pub figures-work : (work : List Float) → figureCallRefusal t rows columns k observed (length work) ≡ 0 → figuresWork t rows columns k observed work ≡ cleared rows work
+  unfolding figuresWork figureCallRefusal
+  figures-work work h = answered (figureCallChecks t rows columns k observed (length work)) _ (λ _. work) .gives h
+
+  module _ (ok : firstRefusal (figureChecks t rows columns k observed) ≡ 0) where
+    -- loosening drops nobody: what the method rejects at e it rejects at every larger e below M; so a figure is at most e exactly when the method rejects at e
+    pub drops-nobody : (j : ℕ) → j < columns → (e e′ : ℕ) → e ≤ e′ → e′ < rows → T (rejectedIn t rows columns k observed e j) → T (rejectedIn t rows columns k observed e′ j)
+    drops-nobody = figures.table-stays t rows columns k observed (accepted t rows columns k observed ok)
+
+    pub figure-means : (j : ℕ) → j < columns → (e : ℕ) → e < rows → (getD (tableFigures t rows columns k observed) j 0 ≤ e) ↔ T (rejectedIn t rows columns k observed e j)
+    figure-means = figures.table-law t rows columns k observed (accepted t rows columns k observed ok)
+
+    -- one pass down the observed values gives the figures, for every k
+    pub by-one-pass : kMaxPass k (rowsOf rows columns t) (everyColumn columns) observed ≡ tableFigures t rows columns k observed
+    by-one-pass = figures.table-kMaxPass t rows columns k observed (accepted t rows columns k observed ok)
+
+-- for k = 1 it is the pass that §1 words
+pub by-maxima : (t : List Float) (rows columns observed : ℕ) → firstRefusal (figureChecks t rows columns 1 observed) ≡ 0 → maximumPass (rowsOf rows columns t) (everyColumn columns) observed ≡ tableFigures t rows columns 1 observed
+by-maxima t rows columns observed ok = figures.table-maximumPass t rows columns observed (accepted t rows columns 1 observed ok)
+
+-- the list at a level a/b holds exactly the columns whose figure is at most e
+pub on-the-list : (t : List Float) (rows columns k a b observed : ℕ) → tableRefusal t rows columns k a b observed ≡ 0 → (j : ℕ) → j < columns
+    → (getD (tableFigures t rows columns k observed) j 0 ≤ allowance rows a b) ↔ T (isRejected (getD (tableRun t rows columns k a b observed .verdicts) j (Kept plusZero)))
+on-the-list = figures.table-level
+
+-- W's figures are 1 and 3, P's with k 2 are 0, 1 and 2; a table with ties among the observed values
+pub adjusted-examples : map (λ x. x .asked) adjusted.examples ≡ map (λ x. x .told) adjusted.examples
+adjusted-examples = figure-examples.all-examples
