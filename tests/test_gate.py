@@ -1,4 +1,4 @@
-"""The gate (tests/run.sh) and `make run`, with an `rt` and a `python3` that only pretend."""
+"""The gate (tests/run.sh), `make run` and `make sheet`, with an `rt` and a `python3` that only pretend."""
 
 import os
 import shutil
@@ -64,11 +64,12 @@ class Run(Pretended):
         super().setUp()
         shutil.copy(ROOT / "Makefile", self.folder)
         self.program("target/bin/report", "echo report of $(cat)")
+        self.program("target/bin/adjusted", "echo sheet of $(cat)")
         (self.folder / "samples").mkdir()
         (self.folder / "samples" / "w.trial").write_text("w")
 
-    def make(self):
-        return subprocess.Popen(["make", "-C", self.folder, "--no-print-directory", "run"],
+    def make(self, goal: str = "run"):
+        return subprocess.Popen(["make", "-C", self.folder, "--no-print-directory", goal],
                                 env=self.path, stdout=subprocess.PIPE, stderr=subprocess.PIPE,
                                 text=True)
 
@@ -94,6 +95,12 @@ echo 'rt: ok, 3 crates proved'""")
         self.assertEqual(out, "")
         self.assertEqual(told.splitlines()[:3],
                          ["order proved (3 s)", "rt: order proved (3 s)", "why not"])
+
+    def test_the_sheet(self):
+        self.program("bin/rt", 'echo "rt: $2 proved (7 s)"')
+        with self.make("sheet") as making:
+            self.assertEqual(making.communicate(), ("sheet of w\n", "adjusted proved (7 s)\n"))
+            self.assertEqual(making.returncode, 0)
 
 
 if __name__ == "__main__":
