@@ -20,7 +20,7 @@ mul-total c = let s = c .before .before .before in let f = total-fits _ _ (s .si
 
 returns-2 : tie.Need-returns-2
 unfolding trialFiguresAnswer
-returns-2 c = let s = c .before .before .before .before .before in let a = s .before .before .before .args in call-short (a .t) _ (s .size .ensures) (acceptedFigures (rowTotal (a .t)) (trialFigures (a .t))) refusedFigures (a .table .now) (a .work .now) _ (c .before .before .before .if1 .left) (c .before .if2 .taken) (c .refused2 .ensures)
+returns-2 c = let s = c .before .before .before .before .before in let a = s .before .before .before .args in call-short (a .t) _ (s .size .ensures) (acceptedFigures (rowTotal (a .t)) (trialFigures (a .t))) refusedFigures (a .table .now) (a .work .now) _ (c .before .before .before .if1 .left) (omega (arith, c .before .if2 .taken)) (c .refused2 .ensures)
 
 returns-3 : tie.Need-returns-3
 unfolding trialFiguresAnswer
