@@ -1,4 +1,5 @@
 pub mod Printable
 pub mod FileTexts
 pub mod Lengths
+pub mod Inputs
 pub mod Examples

@@ -1,5 +1,7 @@
 // The buyers' sheet of a trial file, as text (document 02, §1). The definitions are in specs/, their laws in proofs/.
 use adjustment::Adjusted;
+use limits::LONGEST_SHEET;
+use text::Rendering;
 use trial::Labels;
 use trial::Trial;
 ghost use mathlib.Core.Path.{_≡_};
@@ -8,7 +10,8 @@ ghost use lib.ListN.{length};
 ghost use Rattle.limits.specs.Limits.{offersMost, digitsMost, sheetLineMost, longestSheet};
 ghost use Rattle.text.specs.Text.{linesTo};
 ghost use Rattle.text.specs.Writes.{Wrote, FewDigits};
-ghost use Rattle.sheet.specs.Sheets.{sheetLine, sheetLineAt};
+ghost use Rattle.text.specs.Renderings.{textAnswer, afterText};
+ghost use Rattle.sheet.specs.Sheets.{sheetLine, sheetLineAt, sheetOf};
 ghost use Rattle.sheet.specs.Internal.{textOf, PrintableTrial};
 
 // an offer: printed code and figure
@@ -53,4 +56,17 @@ fn compose(out: &mut [u8], t: Trial, a: Adjusted) -> usize
     let labels = t.labels;
     let at = offers(out, labels, shape.offers, a);
     text::numbered(out, at, b"end", a.rows)
+}
+
+// The sheet of a file, or its refusal, as text into the buffer's first places. Where the buffer is too short it is unchanged.
+pub fn sheet(file: &[u8], out: &mut [u8]) -> Rendering
+    ensures { λ r. ⌜ r ≡ textAnswer (sheetOf (now (file .entry))) (length (now (out .entry))) ⌝ }
+    ensures { λ r. ⌜ now (out .exit) ≡ afterText (sheetOf (now (file .entry))) (now (out .entry)) ⌝ }
+{
+    let f = trialadjustment::file_figures(file);
+    let t = f.trial;
+    let a = f.adjusted;
+    let mut space = [0u8; LONGEST_SHEET];
+    let n = compose(&mut space, t, a);
+    text::give(&space[..n], out)
 }
