@@ -47,6 +47,8 @@ use Rattle.words.specs.Words.{Bytes, wordsOf}
 use Rattle.trialfile.specs.Files.{fileChecks, trialOf, fileRefusal, readingOf}
 use Rattle.trialfile.specs.Writings.{fileLength, writingOf, afterWriting}
 use Rattle.trialrun.specs.TrialRuns.{trialRun, runCallChecks, runCallRefusal, trialAnswer}
+use Rattle.trialadjustment.specs.TrialFigures.{rejectedOf, trialFigures, trialFiguresAnswer}
+use Rattle.trialadjustment.proofs.Trials as trialfigures
 use Rattle.control.proofs.Answered.{tables-answered, trials-answered}
 use Rattle.text.specs.Text.{cents, refusedText}
 use Rattle.rendering.specs.Reports.{recordAt, trialText, reportOf}
@@ -190,6 +192,22 @@ by-maxima t rows columns observed ok = figures.table-maximumPass t rows columns 
 pub on-the-list : (t : List Float) (rows columns k a b observed : ℕ) → tableRefusal t rows columns k a b observed ≡ 0 → (j : ℕ) → j < columns
     → (getD (tableFigures t rows columns k observed) j 0 ≤ allowance rows a b) ↔ T (isRejected (getD (tableRun t rows columns k a b observed .verdicts) j (Kept plusZero)))
 on-the-list = figures.table-level
+
+-- a trial's figures are those of its table, with its own k: the same holds of its offers
+module _ (t : Trial) where
+  pub trial-figures : (places work : ℕ) → runCallRefusal t places work ≡ 0 → trialFiguresAnswer t places work ≡ acceptedFigures (rowTotal t) (trialFigures t)
+  unfolding trialFiguresAnswer runCallRefusal
+  trial-figures places work h = answered (runCallChecks t places work) _ refusedFigures .gives h
+
+  module _ (ok : trialRefusal t ≡ 0) (i : ℕ) (h : i < t .shape .offers) where
+    pub trial-drops-nobody : (e e′ : ℕ) → e ≤ e′ → e′ < rowTotal t → T (rejectedOf t e i) → T (rejectedOf t e′ i)
+    trial-drops-nobody = trialfigures.trial-stays t ok i h
+
+    pub trial-figure-means : (e : ℕ) → e < rowTotal t → (getD (trialFigures t) i 0 ≤ e) ↔ T (rejectedOf t e i)
+    trial-figure-means = trialfigures.trial-figure-law t ok i h
+
+    pub trial-on-the-list : (getD (trialFigures t) i 0 ≤ allowance (rowTotal t) (t .level .a) (t .level .b)) ↔ T (isRejected (getD (trialRun t .verdicts) i (Kept plusZero)))
+    trial-on-the-list = trialfigures.trial-law t ok i h
 
 -- W's figures are 1 and 3, P's with k 2 are 0, 1 and 2; a table with ties among the observed values
 pub adjusted-examples : map (λ x. x .asked) adjusted.examples ≡ map (λ x. x .told) adjusted.examples

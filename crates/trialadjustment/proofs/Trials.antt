@@ -1,5 +1,4 @@
 -- What the figures of an accepted trial say of its full runs.
---   rejectedOf t e i     the method at e, on the table of a trial t, rejects offer i
 --   trial-law            an offer's figure is at most the e of the trial's own level exactly where the trial's full run rejects it
 --   trial-stays          loosening: an offer that is rejected at e is rejected at every larger one below M
 --   trial-figure-law     an offer's figure is at most e exactly where the method rejects it at e, for every e below M
@@ -7,7 +6,6 @@
 use Prim.Native.Nat.{ℕ, _≤_, _<_}
 use mathlib.Core.Path.{_≡_, refl, sym}
 use mathlib.Core.Logic.{_↔_}
-use mathlib.Core.Bool.{Bool}
 use lib.ListN.{length, getD}
 use lib.Dec.{T}
 use Rattle.order.specs.Order.{plusZero}
@@ -15,18 +13,15 @@ use Rattle.refusals.specs.Limits.{allowance}
 use Rattle.runs.specs.FullRuns.{isRejected}
 use Rattle.runs.specs.declared.Verdict.the-variants.{Kept}
 use Rattle.adjustment.proofs.Accepted.{Accepted, accepted}
-use Rattle.adjustment.proofs.Tables.{rejectedIn, table-length, table-most, table-stays, table-law, table-level}
+use Rattle.adjustment.proofs.Tables.{table-length, table-most, table-stays, table-law, table-level}
 use Rattle.trial.specs.Exchange.{rowTotal, tableOf}
 use Rattle.trial.specs.Refusals.{trialRefusal}
 use Rattle.trial.specs.declared.Trial.{Trial}
 use Rattle.trial.proofs.Calls.{known}
 use Rattle.trialrun.specs.TrialRuns.{trialRun}
 use Rattle.trialrun.proofs.Runs.{table-accepted}
-use Rattle.trialadjustment.specs.TrialFigures.{trialFigures}
+use Rattle.trialadjustment.specs.TrialFigures.{rejectedOf, trialFigures}
 use Rattle.trialadjustment.proofs.Calls.{table-passes}
-
-abbrev pub rejectedOf : Trial → ℕ → ℕ → Bool
-rejectedOf t e i = rejectedIn (tableOf t) (rowTotal t) (t .shape .offers) (t .shape .k) 0 e i
 
 module _ (t : Trial) where
   pub trial-length : length (trialFigures t) ≡ t .shape .offers

@@ -1,16 +1,21 @@
 -- The adjusted figures of a trial with lent buffers. Definitions only.
+--   rejectedOf t e i     the method at e rejects offer i (from 0): on the trial's table, with row 0 observed and its own k
 --   trialFigures t       those of its table, with row 0 observed and its own k
 --   trialFiguresAnswer t places work     what the call answers, with a table buffer and a work buffer of so many places; it is refused as a full run is
 -- What the lent buffers hold afterwards is as for a full run: `runTable`, `runWork` (trialrun/specs/TrialRuns.antt).
 use Prim.Native.Nat.{ℕ}
+use mathlib.Core.Bool.{Bool}
 use mathlib.Core.List.{List}
 use Rattle.refusals.specs.Answers.{answer}
-use Rattle.adjustment.specs.Adjusted.{tableFigures}
+use Rattle.adjustment.specs.Adjusted.{rejectedIn, tableFigures}
 use Rattle.adjustment.specs.Answers.{acceptedFigures, refusedFigures}
 use Rattle.adjustment.specs.declared.Adjusted.{Adjusted}
 use Rattle.trial.specs.Exchange.{rowTotal, tableOf}
 use Rattle.trial.specs.declared.Trial.{Trial}
 use Rattle.trialrun.specs.TrialRuns.{runCallChecks}
+
+abbrev pub rejectedOf : Trial → ℕ → ℕ → Bool
+rejectedOf t e i = rejectedIn (tableOf t) (rowTotal t) (t .shape .offers) (t .shape .k) 0 e i
 
 unfoldable pub trialFigures : Trial → List ℕ
 unfolding tableFigures tableOf rowTotal
