@@ -1,14 +1,12 @@
--- W's sheet as printed: the example of document 02, §1, with its figures given.
+-- W's sheet as printed, from the bytes of its file: the example of document 02, §1.
 use mathlib.Core.Path.{_≡_, refl}
-use mathlib.Core.List.{[], _∷_}
+use lib.Ieee.{lt, le, toSigned}
+use Rattle.words.specs.Words.{bytesOf, signed}
+use Rattle.trialfile.specs.Examples.{wordsW}
 use Rattle.text.specs.Ascii.{ascii}
 use Rattle.text.specs.Text.{printed, decimalUpTo}
-use Rattle.adjustment.specs.Answers.{acceptedFigures}
-use Rattle.words.specs.Words.{signed}
-use Rattle.trialfile.specs.Files.{trialOf}
-use Rattle.trialfile.specs.Examples.{wordsW}
-use Rattle.sheet.specs.Sheets.{sheetText}
+use Rattle.sheet.specs.Sheets.{sheetOf}
 
-pub w-sheet : sheetText (trialOf wordsW) (acceptedFigures 8 (1 ∷ 3 ∷ [])) ≡ ascii "0042 1\n7 3\nend 8\n"
-unfolding sheetText trialOf wordsW signed printed decimalUpTo
+pub w-sheet : sheetOf (bytesOf wordsW) ≡ ascii "0042 1\n7 3\nend 8\n"
+unfolding sheetOf bytesOf wordsW signed lt le toSigned printed decimalUpTo
 w-sheet = refl

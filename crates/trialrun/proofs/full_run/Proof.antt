@@ -22,7 +22,7 @@ returns-2 c = let s = c .before .before .before .before .before in let a = s .be
 
 returns-3 : tie.Need-returns-3
 unfolding trialAnswer
-returns-3 c = let s = c .before .before .before .before .before .before .before in let a = s .before .before .before .args in call-cramped (a .t) _ (s .size .ensures) (acceptedRun (trialRun (a .t))) refusedRun (a .table .now) (a .work .now) _ (c .before .before .before .before .before .if1 .left) (c .before .before .before .if2 .left) (c .before .if3 .taken) (c .refused3 .ensures)
+returns-3 c = let s = c .before .before .before .before .before .before .before in let a = s .before .before .before .args in call-cramped (a .t) _ (s .size .ensures) (acceptedRun (trialRun (a .t))) refusedRun (a .table .now) (a .work .now) _ (c .before .before .before .before .before .if1 .left) (c .before .before .before .if2 .left) (omega (arith, c .before .if3 .taken)) (c .refused3 .ensures)
 
 slice-aggregate-full-run : tie.Need-slice-aggregate-full-run
 slice-aggregate-full-run c = sym (length-take-le _ _ (omega (arith, c .before .before .before .table .kept .1 .0, c .before .before .before .before .before .before .before .if2 .left)))
