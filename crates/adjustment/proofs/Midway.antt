@@ -1,6 +1,7 @@
 -- The pass while it goes on, with the columns of the mask `passed` behind it.
 --   Midway            what holds before each column
---   midway-start, midway-turn, midway-end     before the first, one column more, and after the last
+--   midway-start, midway-end       before the first column, and after the last
+--   midway-counted, midway-tied    one column more, with a count made for it, and with none since its value is no smaller than the last one with a count
 --   midway-counts, midway-part     what the count and the scan of the observed row ask for
 --   place-fits, place-32, entry-fits, bit-fits     the column that was found is one of the table, its entry is there, and its bit fits the mask
 --   one-fewer     with it passed fewer are left
@@ -13,16 +14,17 @@ use lib.ListN.{length, getD, take, drop, set, replicate, length-set, length-repl
 use lib.Seq.{take-at, drop-at, take-set-lt, drop-set-lt, length-take-le}
 use lib.Dec.{T, eqb}
 use lib.Pow.{pow-pos}
-use lib.Ieee.{Float, nan}
-use borrow.Author.Tests.{eqb-true, ne-eqb}
-use Rattle.order.specs.Order.{finite, atMost}
+use lib.Ieee.{Float, nan, inf, fin, lt}
+use borrow.Author.Tests.{eqb-true, ltb-false}
+use Rattle.order.specs.Order.{finite, atMost, smaller}
 use Rattle.order.specs.Lists.{rowsOf, padded}
 use Rattle.order.proofs.Counts.{all-getD}
-use Rattle.order.proofs.Booleans.{T-false}
+use Rattle.order.proofs.Booleans.{T-false, never, true-T}
+use Rattle.order.proofs.Keys.{key, smaller-key}
 use Rattle.order.proofs.Lists.{part-rows, rowsOf-length, row-entry, padded-length}
 use Rattle.order.proofs.Rows.{Sound, soundRow, sound-length, sound-finite, rowsOf-sound}
 use Rattle.columns.specs.Columns.{Columns, size, _∖_, columnsOf, maskOf}
-use Rattle.columns.proofs.Sets.{has, has-length, _⊆_, ⊆-by, ⊆-at, ⊆-length, length-∖, empty-in}
+use Rattle.columns.proofs.Sets.{has, has-length, _⊆_, none, more, ⊆-at, ⊆-refl, ⊆-length, length-∖, empty-in}
 use Rattle.columns.proofs.Masks.{columnsOf-length, columnsOf-minus, maskOf-columnsOf, mask-none, size-none, minus-fits}
 use Rattle.columns.proofs.Remaining.{remains, left-all}
 use Rattle.masks.specs.Marks.{marksOf}
@@ -32,9 +34,10 @@ use Rattle.adjustment.specs.Passes.{topColumn, needed, kMaxFrom, kMaxPas
 use Rattle.adjustment.specs.Internal.{Passable, Countable, neededIn}
 use Rattle.adjustment.proofs.TopColumn.{top-finite}
 use Rattle.adjustment.proofs.PassFigures.{here, next-inside, next-size}
+use Rattle.adjustment.proofs.Needed.{needed-falls}
 use Rattle.adjustment.proofs.NeededMarks.{needed-marks}
 
-pub record Midway (t : List Float) (rows columns k observed live : ℕ) (figures : List ℕ) (passed figure : ℕ) : Type 0 where
+pub record Midway (t : List Float) (rows columns k observed live : ℕ) (figures : List ℕ) (passed figure : ℕ) (last : Float) : Type 0 where
   pub ready : Passable t rows columns k observed live
   pub held : k ≤ size (columnsOf columns live)
   pub fits : passed < 2 ^ columns
@@ -43,6 +46,7 @@ pub record Midway (t : List Float) (rows columns k observed live : ℕ) (figures
   pub beyond : drop columns figures ≡ replicate (32 - columns) 0
   pub onward : kMaxFrom (size (columnsOf columns live ∖ columnsOf columns passed)) k (rowsOf rows columns t) (columnsOf columns live) (getD (rowsOf rows columns t) observed []) (columnsOf columns passed) figure (take columns figures)
       ≡ kMaxPass k (rowsOf rows columns t) (columnsOf columns live) observed
+  pub settled : 0 < size (columnsOf columns live ∖ columnsOf columns passed) → (x : Float) → T (finite x) → smaller x last ≡ false → needed k (rowsOf rows columns t) (columnsOf columns live) (columnsOf columns passed) x ≤ figure
 
 -- ---- before the first column
 
@@ -50,6 +54,13 @@ none-passed : (n s : ℕ) → columnsOf n 0 ≡ map (λ _. false) (columnsOf n s
 unfolding columnsOf
 none-passed zero s = refl
 none-passed (suc n) s = ap (λ (K : Columns). false ∷ K) (none-passed n (s / 2))
+
+-- every finite value is smaller than infinity
+all-below : (x : Float) → T (finite x) → smaller x (inf false) ≡ true
+unfolding finite lt
+all-below nan f = absurd f
+all-below (inf s) f = absurd f
+all-below (fin s m e) f = refl
 
 module _ {t : List Float} {rows columns k observed live : ℕ} (r : Passable t rows columns k observed live) (held : k ≤ size (columnsOf columns live)) where
   fresh : (figures : List ℕ) → figures ≡ padded 32 0 (replicate columns rows)
@@ -62,7 +73,7 @@ module _ {t : List Float} {rows columns k observed live : ℕ} (r : Passable t r
       (ap (take columns) e ∙ take-at (replicate columns rows) (replicate (32 - length (replicate columns rows)) 0) columns (length-replicate columns rows)
       ∙ ap₂ (λ (n m : ℕ). replicate n m) (sym (columnsOf-length columns live)) (sym (rowsOf-length rows columns t)))
 
-  pub midway-start : (figures : List ℕ) → figures ≡ padded 32 0 (replicate columns rows) → Midway t rows columns k observed live figures 0 0
+  pub midway-start : (figures : List ℕ) → figures ≡ padded 32 0 (replicate columns rows) → Midway t rows columns k observed live figures 0 0 (inf false)
   midway-start figures e = record {
     ready = r;
     held = held;
@@ -71,6 +82,7 @@ module _ {t : List Float} {rows columns k observed live : ℕ} (r : Passable t r
     room = ap length e ∙ padded-length 32 0 (replicate columns rows) (omega (arith, length-replicate columns rows, r .ready .cols-most));
     beyond = ap (drop columns) e ∙ drop-at (replicate columns rows) (replicate (32 - length (replicate columns rows)) 0) columns (length-replicate columns rows) ∙ ap (λ (n : ℕ). replicate (32 - n) 0) (length-replicate columns rows);
     onward = fresh figures e;
+    settled = λ left x f s. absurd (never (smaller x (inf false)) s (true-T (smaller x (inf false)) (all-below x f)));
   }
 
 -- ---- at a column
@@ -87,7 +99,12 @@ no-column : (n k : ℕ) (X : List (List Float)) (live : Columns) (row : List Flo
 unfolding kMaxFrom
 no-column n k X live row R m fs z = ap (λ (j : ℕ). kMaxFrom j k X live row R m fs) z
 
-module _ {t : List Float} {rows columns k observed live : ℕ} {figures : List ℕ} {passed figure : ℕ} (m : Midway t rows columns k observed live figures passed figure) where
+grown : (R : Columns) (i : ℕ) → R ⊆ set R i true
+grown [] i = none
+grown (b ∷ R) zero = more (λ _. tt) (⊆-refl R)
+grown (b ∷ R) (suc i) = more (λ t. t) (grown R i)
+
+module _ {t : List Float} {rows columns k observed live : ℕ} {figures : List ℕ} {passed figure : ℕ} {last : Float} (m : Midway t rows columns k observed live figures passed figure last) where
   abbrev L : Columns
   L = columnsOf columns live
 
@@ -170,24 +187,26 @@ module _ {t : List Float} {rows columns k observed live : ℕ} {figures : List �
       pub bit-fits : (p : ℕ) → p ≡ 2 ^ i → passed + p < 2 ^ columns
       bit-fits p e = subst (λ (x : ℕ). passed + x < 2 ^ columns) (sym e) (put-lt columns passed i (m .fits) place-fits free)
 
-      module _ (v : Float) (ms : List ℕ) (figure′ p : ℕ) (shown : v ≡ getD t (observed * columns + i) nan) (marked : ms ≡ marksOf k (λ x. atMost v x) (rowsOf rows columns t))
-          (counted : figure′ ≡ max figure (neededIn k ms (columnsOf columns live) (columnsOf columns passed))) (bit : p ≡ 2 ^ i) where
+      module _ (v : Float) (p : ℕ) (shown : v ≡ getD t (observed * columns + i) nan) (bit : p ≡ 2 ^ i) where
         value : v ≡ getD (getD (rowsOf rows columns t) observed []) i nan
         value = shown ∙ sym (row-entry t rows columns observed i nan (m .ready .seen) place-fits)
+
+        v-finite : T (finite v)
+        v-finite = subst (λ (x : Float). T (finite x)) (sym value) value-finite
 
         next-set : columnsOf columns (passed + p) ≡ set (columnsOf columns passed) i true
         next-set = ap (λ (x : ℕ). columnsOf columns (passed + x)) bit ∙ put-columns columns passed i (m .fits) place-fits free
 
-        figure-is : figure′ ≡ max figure (needed k (rowsOf rows columns t) (columnsOf columns live) (columnsOf columns passed) (getD (getD (rowsOf rows columns t) observed []) i nan))
-        figure-is = counted ∙ ap (max figure) (ap₂ (λ (l : List ℕ) (x : Float). neededIn k l L R) (marked ∙ ap (λ (x : Float). marksOf k (λ y. atMost x y) (rowsOf rows columns t)) value) value
-            ∙ needed-marks columns k (rowsOf rows columns t) (getD row i nan) sound (m .ready .ready .cols-most) (m .ready .ready .k-some) value-finite L R (columnsOf-length columns live) (m .held) (m .inside) midway-left)
+        next-in : columnsOf columns (passed + p) ⊆ columnsOf columns live
+        next-in = subst (λ (K : Columns). K ⊆ L) (sym next-set) (subst (λ (l : ℕ). set R l true ⊆ L) (sym top) (next-inside L row row-sound R (m .inside) midway-left))
 
-        onward′ : kMaxFrom (size (columnsOf columns live ∖ columnsOf columns (passed + p))) k (rowsOf rows columns t) (columnsOf columns live) (getD (rowsOf rows columns t) observed []) (columnsOf columns (passed + p)) figure′ (take columns (set figures i figure′))
+        onward′ : (figure′ : ℕ) → figure′ ≡ max figure (needed k (rowsOf rows columns t) (columnsOf columns live) (columnsOf columns passed) v)
+            → kMaxFrom (size (columnsOf columns live ∖ columnsOf columns (passed + p))) k (rowsOf rows columns t) (columnsOf columns live) (getD (rowsOf rows columns t) observed []) (columnsOf columns (passed + p)) figure′ (take columns (set figures i figure′))
             ≡ kMaxPass k (rowsOf rows columns t) (columnsOf columns live) observed
-        onward′ =
+        onward′ figure′ e =
             ap₂ (λ (Q : Columns) (fs : List ℕ). kMaxFrom (size (L ∖ Q)) k (rowsOf rows columns t) L row Q figure′ fs) next-set (take-set-lt columns figures i figure′ place-fits)
             ∙ ap (λ (n : ℕ). kMaxFrom n k (rowsOf rows columns t) L row (set R i true) figure′ (set (take columns figures) i figure′)) fewer
-            ∙ one-column (size (L ∖ R) - 1) k (rowsOf rows columns t) L row R figure (take columns figures) i figure′ top figure-is
+            ∙ one-column (size (L ∖ R) - 1) k (rowsOf rows columns t) L row R figure (take columns figures) i figure′ top (e ∙ ap (λ (x : Float). max figure (needed k (rowsOf rows columns t) L R x)) value)
             ∙ ap (λ (n : ℕ). kMaxFrom n k (rowsOf rows columns t) L row R figure (take columns figures)) (sym some) ∙ m .onward
           where
             some : size (L ∖ R) ≡ suc (size (L ∖ R) - 1)
@@ -196,16 +215,36 @@ module _ {t : List Float} {rows columns k observed live : ℕ} {figures : List �
             fewer : size (L ∖ set R i true) ≡ size (L ∖ R) - 1
             fewer = ap (λ (l : ℕ). size (L ∖ set R l true)) top ∙ next-size L row row-sound R (m .inside) midway-left (size (L ∖ R) - 1) some
 
-        pub midway-turn : Midway t rows columns k observed live (set figures i figure′) (passed + p) figure′
-        midway-turn = record {
+        -- what is needed falls with what is passed and with a larger value
+        falls : (Q : Columns) (x y : Float) → columnsOf columns passed ⊆ Q → Q ⊆ columnsOf columns live → 0 < size (columnsOf columns live ∖ Q) → T (finite x) → T (finite y) → key x ≤ key y
+            → needed k (rowsOf rows columns t) (columnsOf columns live) Q y ≤ needed k (rowsOf rows columns t) (columnsOf columns live) (columnsOf columns passed) x
+        falls Q x y = needed-falls k (rowsOf rows columns t) L R Q x y (subst (λ (n : ℕ). Sound n (rowsOf rows columns t)) (sym (columnsOf-length columns live)) sound) (m .ready .ready .k-some) (m .held)
+
+        midway-turn : (figure′ : ℕ) (last′ : Float) → figure′ ≡ max figure (needed k (rowsOf rows columns t) (columnsOf columns live) (columnsOf columns passed) v)
+            → ((x : Float) → T (finite x) → smaller x last′ ≡ false → needed k (rowsOf rows columns t) (columnsOf columns live) (columnsOf columns passed) x ≤ figure′)
+            → Midway t rows columns k observed live (set figures i figure′) (passed + p) figure′ last′
+        midway-turn figure′ last′ e after = record {
           ready = m .ready;
           held = m .held;
           fits = bit-fits p bit;
-          inside = subst (λ (K : Columns). K ⊆ L) (sym next-set) (subst (λ (l : ℕ). set R l true ⊆ L) (sym top) (next-inside L row row-sound R (m .inside) midway-left));
+          inside = next-in;
           room = length-set figures i figure′ ∙ m .room;
           beyond = drop-set-lt columns figures i figure′ place-fits ∙ m .beyond;
-          onward = onward′;
+          onward = onward′ figure′ e;
+          settled = λ left x f s. omega (arith, after x f s, falls (columnsOf columns (passed + p)) x x (subst (λ (K : Columns). R ⊆ K) (sym next-set) (grown R i)) next-in left f f (omega arith));
         }
+
+        module _ (figure′ : ℕ) (last′ : Float) where
+          pub midway-counted : (r : ℕ) → r ≡ max figure (neededIn k (marksOf k (λ x. atMost v x) (rowsOf rows columns t)) (columnsOf columns live) (columnsOf columns passed)) → figure′ ≡ r → last′ ≡ v
+              → Midway t rows columns k observed live (set figures i figure′) (passed + p) figure′ last′
+          midway-counted r counted e q = midway-turn figure′ last′ told
+              (λ x f s. omega (arith, told, falls R v x (⊆-refl R) (m .inside) midway-left v-finite f (ltb-false (key x) (key v) (sym (smaller-key x v f v-finite) ∙ sym (ap (λ (l : Float). smaller x l) q) ∙ s))))
+            where
+              told : figure′ ≡ max figure (needed k (rowsOf rows columns t) L R v)
+              told = e ∙ counted ∙ ap (max figure) (needed-marks columns k (rowsOf rows columns t) v sound (m .ready .ready .cols-most) (m .ready .ready .k-some) v-finite L R (columnsOf-length columns live) (m .held) (m .inside) midway-left)
+
+          pub midway-tied : smaller v last ≡ false → figure′ ≡ figure → last′ ≡ last → Midway t rows columns k observed live (set figures i figure′) (passed + p) figure′ last′
+          midway-tied s e q = midway-turn figure′ last′ (omega (arith, m .settled midway-left v v-finite s)) (λ x f u. omega (arith, m .settled midway-left x f (sym (ap (λ (l : Float). smaller x l) q) ∙ u)))
 
   pub midway-end : passed ≡ live → figures ≡ padded 32 0 (kMaxPass k (rowsOf rows columns t) (columnsOf columns live) observed)
   midway-end e = sym (take-append-drop columns figures) ∙ ap₂ (λ (x y : List ℕ). x ++ y) full (m .beyond ∙ ap (λ (n : ℕ). replicate (32 - n) 0) (sym (ap length (sym full) ∙ length-take-le columns figures (omega (arith, m .room, m .ready .ready .cols-most)))))

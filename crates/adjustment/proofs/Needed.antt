@@ -1,6 +1,7 @@
 -- How many rows must be allowed for a value to lie above the critical value with R rejected.
 --   needed-law     that critical value reaches v exactly where e is below `needed`
 --   needed-most    `needed` is at most M
+--   needed-falls   with more rejected, a value no smaller needs no more
 --   needed-one     for k = 1 it is the count over what is left: nothing is put back
 use Prim.Native.Nat.{ℕ, zero, suc, _+_, _-_, _≤_, _<_, max}
 use native.Mathlib.Omega.{arith}
@@ -29,7 +30,7 @@ use Rattle.columns.proofs.Remaining.{left-none, nothing-new}
 use Rattle.method.specs.Method.{criticalValue, putBack, reaching}
 use Rattle.method.proofs.Critical.{sets-finite}
 use Rattle.method.proofs.Reaching.{reach-law, reaching-most}
-use Rattle.runs.proofs.Loosening.{criticalAt, criticalAt-few, criticalAt-many}
+use Rattle.runs.proofs.Loosening.{criticalAt, criticalAt-few, criticalAt-many, criticalAt-falls}
 use Rattle.adjustment.specs.Passes.{largestOf, needed}
 
 -- the largest is above e where some number is
@@ -92,6 +93,21 @@ needed-most k X live R v = go (ltb (size R) k)
     go : (b : Bool) → cond b (reaching k X live v) (largestOf (map (λ I. reaching k X ((live ∖ R) ∪ I) v) (choose (k - 1) R))) ≤ length X
     go true = reaching-most k X live v
     go false = all-most (choose (k - 1) R)
+
+pub needed-falls : (k : ℕ) (X : List (List Float)) (live R R′ : Columns) (v x : Float) → Sound (length live) X → 0 < k → k ≤ size live → R ⊆ R′ → R′ ⊆ live → 0 < size (live ∖ R′) → T (finite v) → T (finite x) → key v ≤ key x
+    → needed k X live R′ x ≤ needed k X live R v
+needed-falls k X live R R′ v x sound pos held sub inside left f g le = go (needed k X live R′ x) refl
+  where
+    go : (n : ℕ) → needed k X live R′ x ≡ n → n ≤ needed k X live R v
+    go zero q = omega arith
+    go (suc e) q =
+        let rare : e < length X = omega (arith, needed-most k X live R′ x) in
+        let low : key v ≤ key (criticalAt k e X live R) = omega (
+          arith,
+          needed-law (length live) k e X x sound pos rare g live R′ .1 (omega arith),
+          criticalAt-falls k e e X live sound pos held (omega arith) rare R R′ sub inside left,
+        ) in
+        omega (arith, needed-law (length live) k e X v sound pos rare f live R .0 low)
 
 pub needed-one : (X : List (List Float)) (live R : Columns) (v : Float) → R ⊆ live → needed 1 X live R v ≡ reaching 1 X (live ∖ R) v
 unfolding needed largestOf choose

@@ -1,5 +1,6 @@
 -- The count by marks is the count by k-max values.
 --   needed-marks     `neededIn` of the marks by v is `needed` for v
+--   needed-of        it depends on the marks alone
 use Prim.Native.Nat.{ℕ, _-_, _≤_, _<_, max}
 use native.Mathlib.Omega.{arith}
 use native.Mathlib.Decide.{decLe}
@@ -23,6 +24,9 @@ use Rattle.masks.specs.Marks.{marksOf, holdingColumns}
 use Rattle.masks.proofs.Marks.{marks-counted}
 use Rattle.adjustment.specs.Passes.{largestOf, needed}
 use Rattle.adjustment.specs.Internal.{neededIn}
+
+pub needed-of : (best k : ℕ) (live R : Columns) (r : ℕ) (ms ms′ : List ℕ) → r ≡ max best (neededIn k ms live R) → ms ≡ ms′ → r ≡ max best (neededIn k ms′ live R)
+needed-of best k live R r ms ms′ e q = e ∙ ap (λ (l : List ℕ). max best (neededIn k l live R)) q
 
 -- counts that agree on every member have the same largest
 largest-same : {A : Type 0} (f g : A → ℕ) (l : List A) → T (all (λ x. eqb (f x) (g x)) l) → largestOf (map f l) ≡ largestOf (map g l)

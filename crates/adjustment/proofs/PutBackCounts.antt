@@ -98,6 +98,17 @@ module _ (ms : List ℕ) (cols k : ℕ) where
 
 -- ---- what is needed
 
+pub countable-fewer : {ms : List ℕ} {cols k live passed : ℕ} → Countable ms cols k live passed → (ms′ : List ℕ) → length ms′ ≤ length ms → Countable ms′ cols k live passed
+countable-fewer w ms′ h = record {
+  cols-most = w .cols-most;
+  marks-most = omega (arith, w .marks-most);
+  k-some = w .k-some;
+  k-most = w .k-most;
+  live-fits = w .live-fits;
+  passed-fits = w .passed-fits;
+  inside = w .inside;
+}
+
 module _ {ms : List ℕ} {cols k live passed : ℕ} (w : Countable ms cols k live passed) where
   among : columnsOf cols passed ⊆ columnsOf cols live
   among = ⊆-by (columnsOf cols passed) (columnsOf cols live) (columnsOf-length cols passed ∙ sym (columnsOf-length cols live)) (w .inside)

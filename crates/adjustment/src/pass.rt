@@ -3,13 +3,16 @@ use super::counting;
 use super::top;
 use limits::TABLE_ROWS_MOST;
 ghost use mathlib.Core.Path.{_≡_};
-ghost use Prim.Native.Nat.{_≤_};
-ghost use lib.ListN.{replicate};
+ghost use Prim.Native.Nat.{_≤_, max};
+ghost use lib.ListN.{length, replicate};
+ghost use Rattle.order.specs.Order.{atMost};
 ghost use Rattle.order.specs.Lists.{rowsOf, padded};
 ghost use Rattle.columns.specs.Columns.{size, columnsOf};
 ghost use Rattle.adjustment.specs.Adjusted.{adjustedFigures};
 ghost use Rattle.adjustment.specs.Passes.{kMaxPass};
-ghost use Rattle.adjustment.specs.Internal.{Passable};
+ghost use Rattle.masks.specs.Internal.{CheckedTable};
+ghost use Rattle.masks.specs.Marks.{marksOf};
+ghost use Rattle.adjustment.specs.Internal.{Passable, Countable, neededIn};
 
 // M for each column, which is what a column has that is never rejected.
 fn unrejected(rows: usize, columns: usize) -> [usize; 32]
@@ -25,7 +28,26 @@ fn unrejected(rows: usize, columns: usize) -> [usize; 32]
     figures
 }
 
-// The pass over the columns of `live`, of which there are k or more.
+// The larger of `figure` and the count that a value v needs with the columns of `passed` passed. The rows' masks are made for it.
+fn raised(
+    table: &[f64],
+    marks: &mut [u32],
+    rows: usize,
+    columns: usize,
+    k: usize,
+    live: u32,
+    passed: u32,
+    v: f64,
+    figure: usize,
+) -> usize
+    requires { ⌜ CheckedTable (now table) rows columns k × (rows ≤ length (now marks)) × Countable (now marks) columns k live passed ⌝ }
+    ensures { λ r. ⌜ r ≡ max figure (neededIn k (marksOf k (λ x. atMost v x) (rowsOf rows columns (now (table .entry)))) (columnsOf columns live) (columnsOf columns passed)) ⌝ }
+{
+    let n = masks::mark(table, marks, rows, columns, k, v);
+    counting::needed(&marks[..n], columns, k, live, passed, figure)
+}
+
+// The pass over the columns of `live`, of which there are k or more. A value no smaller than the last one for which a count was made needs no more.
 fn down(
     table: &[f64],
     rows: usize,
@@ -43,10 +65,14 @@ fn down(
     let to = from + columns;
     let mut passed: u32 = 0;
     let mut figure: usize = 0;
+    let mut last = f64::from_bits(0x7FF0_0000_0000_0000);
     while passed != live {
         let i = top::top_column(&table[from..to], live - passed);
-        let n = masks::mark(table, &mut marks, rows, columns, k, table[from + i]);
-        figure = counting::needed(&marks[..n], columns, k, live, passed, figure);
+        let v = table[from + i];
+        if v < last {
+            figure = raised(table, &mut marks, rows, columns, k, live, passed, v, figure);
+            last = v;
+        }
         figures[i] = figure;
         passed += masks::bit(i);
     }
