@@ -10,7 +10,7 @@ use mathlib.Core.Logic.{_↔_, _⊎_}
 use lib.ListN.{length, getD, take}
 use lib.Dec.{T}
 use lib.Ieee.{Float, binary64, ofInt, toSigned}
-use Rattle.limits.specs.Limits.{inputRoom, longestReport}
+use Rattle.limits.specs.Limits.{inputRoom, longestReport, longestSheet}
 use Rattle.order.specs.Order.{plusZero}
 use Rattle.order.specs.Lists.{rowsOf}
 use Rattle.refusals.specs.Answers.{Checks, First, firstRefusal, afterwards}
@@ -53,6 +53,10 @@ use Rattle.control.proofs.Answered.{tables-answered, trials-answered}
 use Rattle.text.specs.Text.{cents, refusedText}
 use Rattle.rendering.specs.Reports.{recordAt, trialText, reportOf}
 use Rattle.rendering.specs.Renderings.{renderingOf, afterRendering}
+use Rattle.text.specs.Renderings.{textAnswer, afterText}
+use Rattle.sheet.specs.Sheets.{sheetText, sheetOf}
+use Rattle.sheet.proofs.Lengths as sheets
+use Rattle.sheet.proofs.Inputs as sheet-inputs
 use Rattle.streams.specs.Programs.{Gives}
 use Rattle.stepdown.proofs.StepByStep as steps
 use Rattle.trialrun.proofs.Runs as trialruns
@@ -208,6 +212,19 @@ module _ (t : Trial) where
 
     pub trial-on-the-list : (getD (trialFigures t) i 0 ≤ allowance (rowTotal t) (t .level .a) (t .level .b)) ↔ T (isRejected (getD (trialRun t .verdicts) i (Kept plusZero)))
     trial-on-the-list = trialfigures.trial-law t ok i h
+
+-- what the program for the sheet prints, of an input that it read into such a buffer, is the sheet of the whole input: the figures of its trial, or its refusal
+pub sheet-program : (whole buffer text : List ℕ) (n : ℕ) → inputRoom ≤ length buffer → longestSheet ≤ length text → Gives whole buffer n
+    → let read = take n buffer in take ((textAnswer (sheetOf read) (length text)) .length) (afterText (sheetOf read) text) ≡ sheetOf whole
+sheet-program whole buffer text n h k g = sheets.sheet-whole (take n buffer) text _ _ k refl refl ∙ programs.whole-input sheetOf inputRoom sheet-inputs.cut-off whole buffer n h g
+
+pub sheet-accepted : (bytes : List ℕ) → fileRefusal bytes ≡ 0 → let t = trialOf (wordsOf bytes) in sheetOf bytes ≡ sheetText t (acceptedFigures (rowTotal t) (trialFigures t))
+unfolding sheetOf fileRefusal
+sheet-accepted bytes h = answered (fileChecks bytes) _ refusedText .gives h
+
+pub sheet-refused : (bytes : List ℕ) (n : ℕ) → First (fileChecks bytes) n → sheetOf bytes ≡ refusedText n
+unfolding sheetOf
+sheet-refused bytes n f = answered (fileChecks bytes) _ refusedText .refuses n f
 
 -- W's figures are 1 and 3, P's with k 2 are 0, 1 and 2; a table with ties among the observed values
 pub adjusted-examples : map (λ x. x .asked) adjusted.examples ≡ map (λ x. x .told) adjusted.examples
