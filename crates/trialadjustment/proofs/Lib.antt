@@ -1,0 +1,5 @@
+pub mod Calls
+pub mod Trials
+pub mod Files
+pub mod Unused
+pub mod Examples

@@ -18,7 +18,6 @@ abbrev pub refusedFile : ℕ → FileFigures
 refusedFile n = record { trial = blank; adjusted = refusedFigures n }
 
 abbrev pub acceptedFile : Trial → FileFigures
-unfolding trialFigures
 acceptedFile t = record { trial = t; adjusted = acceptedFigures (rowTotal t) (trialFigures t) }
 
 unfoldable pub fileFigures : List ℕ → FileFigures

@@ -1,8 +1,9 @@
 -- The full run of a trial: its table is accepted, so the run is that of the table.
 --   table-accepted, table-runs     the table of an accepted trial is an accepted one, whatever the work buffer's places, if they are enough
 --   run-turned, -short, -cramped, -free     what the call gives, by the size that it is told
---   call-turned, -short, -cramped           the same of the answer with both buffers
---   table-filled, trial-run, trial-work     the table in its buffer, and the full run of that table
+--   call-turned, -short, -cramped           the same of an answer of any kind with both buffers
+--   table-filled, call-done                 the table in its buffer, and an answer of any kind that is asked of that table
+--   trial-run, trial-work                   the full run of that table
 --   run-sizes                      M and e of the full run: the rows of the trial's table, and floor(M × a/b)
 use Prim.Native.Nat.{ℕ, _*_, _≤_, _<_}
 use native.Mathlib.Omega.{arith}
@@ -112,23 +113,23 @@ module _ (t : Trial) (s : TableSize) (q : s ≡ sizeOf t) where
 
   -- ---- a refused call
 
-  module _ (table work : List Float) where
-    abbrev pub Left : FullRun → Type 0
-    Left f = (f ≡ trialAnswer t (length table) (length work)) × ((table ≡ runTable t table (length work)) × (work ≡ runWork t (length table) work))
+  module _ {A : Type 0} (done : A) (refusing : ℕ → A) (table work : List Float) where
+    abbrev pub Left : A → Type 0
+    Left f = (f ≡ answer (runCallChecks t (length table) (length work)) done refusing) × ((table ≡ runTable t table (length work)) × (work ≡ runWork t (length table) work))
 
     -- each answer with both buffers, by a law of every answer
-    left : (n : ℕ) (f : FullRun) → f ≡ refusedRun n → ((A : Type 0) (done : A) (refusing : ℕ → A) → refusing n ≡ answer (runCallChecks t (length table) (length work)) done refusing) → Left f
-    unfolding trialAnswer runTable runWork
-    left n f e law = (e ∙ law FullRun (acceptedRun (trialRun t)) refusedRun, (law (List Float) (written (tableOf t) table) (λ _. table), law (List Float) (cleared (rowTotal t) work) (λ _. work)))
+    left : (n : ℕ) (f : A) → f ≡ refusing n → ((B : Type 0) (done : B) (refusing : ℕ → B) → refusing n ≡ answer (runCallChecks t (length table) (length work)) done refusing) → Left f
+    unfolding runTable runWork
+    left n f e law = (e ∙ law A done refusing, (law (List Float) (written (tableOf t) table) (λ _. table), law (List Float) (cleared (rowTotal t) work) (λ _. work)))
 
-    pub call-turned : (f : FullRun) → (s .refusal ≡ 0 → ⊥) → f ≡ refusedRun (s .refusal) → Left f
-    call-turned f z e = left (s .refusal) f e (λ A done refusing. run-turned done refusing (length table) (length work) z)
+    pub call-turned : (f : A) → (s .refusal ≡ 0 → ⊥) → f ≡ refusing (s .refusal) → Left f
+    call-turned f z e = left (s .refusal) f e (λ B done refusing. run-turned done refusing (length table) (length work) z)
 
-    pub call-short : (f : FullRun) → s .refusal ≡ 0 → length table < s .rows * s .columns → f ≡ refusedRun 12 → Left f
-    call-short f z h e = left 12 f e (λ A done refusing. run-short done refusing (length table) (length work) z h)
+    pub call-short : (f : A) → s .refusal ≡ 0 → length table < s .rows * s .columns → f ≡ refusing 12 → Left f
+    call-short f z h e = left 12 f e (λ B done refusing. run-short done refusing (length table) (length work) z h)
 
-    pub call-cramped : (f : FullRun) → s .refusal ≡ 0 → s .rows * s .columns ≤ length table → length work < s .rows → f ≡ refusedRun 12 → Left f
-    call-cramped f z h l e = left 12 f e (λ A done refusing. run-cramped done refusing (length table) (length work) z h l)
+    pub call-cramped : (f : A) → s .refusal ≡ 0 → s .rows * s .columns ≤ length table → length work < s .rows → f ≡ refusing 12 → Left f
+    call-cramped f z h l e = left 12 f e (λ B done refusing. run-cramped done refusing (length table) (length work) z h l)
 
   -- ---- an accepted call
 
@@ -155,26 +156,27 @@ module _ (t : Trial) (s : TableSize) (q : s ≡ sizeOf t) where
       front : take (s .rows * s .columns) w ≡ tableOf t
       front = ap (take (s .rows * s .columns)) filled ∙ take-at (tableOf t) (drop (length (tableOf t)) table) (s .rows * s .columns) (tableOf-length t ∙ sym same-total)
 
+      moved : {A : Type 0} (f : List Float → ℕ → ℕ → A) → f (take (s .rows * s .columns) w) (s .rows) (s .columns) ≡ f (tableOf t) (rowTotal t) (t .shape .offers)
+      moved f = ap₂ (λ (x : List Float) (m : ℕ). f x m (s .columns)) front (told .rows-are z) ∙ ap (f (tableOf t) (rowTotal t)) (told .columns-are z)
+
       module _ (work : List Float) (l : s .rows ≤ length work) where
+        module _ {A : Type 0} (f : List Float → ℕ → ℕ → A) (done : A) (refusing : ℕ → A) where
+          pub call-done : f (tableOf t) (rowTotal t) (t .shape .offers) ≡ done → (r : A) → r ≡ f (take (s .rows * s .columns) w) (s .rows) (s .columns) → r ≡ answer (runCallChecks t (length table) (length work)) done refusing
+          call-done d r v = v ∙ moved f ∙ d ∙ run-free done refusing (length table) (length work) z h l
+
         free : tableRunRefusal (tableOf t) (rowTotal t) (t .shape .offers) (t .shape .k) (t .level .a) (t .level .b) 0 (length work) ≡ 0
         free = table-runs t good (length work) (omega (arith, told .rows-are z))
 
-        moved : {A : Type 0} (f : List Float → ℕ → ℕ → A) → f (take (s .rows * s .columns) w) (s .rows) (s .columns) ≡ f (tableOf t) (rowTotal t) (t .shape .offers)
-        moved f = ap₂ (λ (x : List Float) (m : ℕ). f x m (s .columns)) front (told .rows-are z) ∙ ap (f (tableOf t) (rowTotal t)) (told .columns-are z)
+        abbrev checks : Checks
+        checks = tableRunChecks (tableOf t) (rowTotal t) (t .shape .offers) (t .shape .k) (t .level .a) (t .level .b) 0 (length work)
 
         pub trial-run : (r : FullRun) → r ≡ fullAnswer (take (s .rows * s .columns) w) (s .rows) (s .columns) (t .shape .k) (t .level .a) (t .level .b) 0 (length work) → r ≡ trialAnswer t (length table) (length work)
         unfolding trialAnswer fullAnswer trialRun tableRunRefusal
-        trial-run r v =
-            v ∙ moved (λ x m n. fullAnswer x m n (t .shape .k) (t .level .a) (t .level .b) 0 (length work))
-            ∙ sym (accepted (acceptedRun (trialRun t)) refusedRun (tableRunChecks (tableOf t) (rowTotal t) (t .shape .offers) (t .shape .k) (t .level .a) (t .level .b) 0 (length work)) 0 (sym free) refl)
-            ∙ run-free (acceptedRun (trialRun t)) refusedRun (length table) (length work) z h l
+        trial-run = call-done (λ x m n. fullAnswer x m n (t .shape .k) (t .level .a) (t .level .b) 0 (length work)) (acceptedRun (trialRun t)) refusedRun (sym (accepted (acceptedRun (trialRun t)) refusedRun checks 0 (sym free) refl))
 
         pub trial-work : (v : List Float) → v ≡ fullWork (take (s .rows * s .columns) w) (s .rows) (s .columns) (t .shape .k) (t .level .a) (t .level .b) 0 work → v ≡ runWork t (length table) work
         unfolding fullWork runWork tableRunRefusal
-        trial-work v q =
-            q ∙ moved (λ x m n. fullWork x m n (t .shape .k) (t .level .a) (t .level .b) 0 work)
-            ∙ sym (accepted (cleared (rowTotal t) work) (λ _. work) (tableRunChecks (tableOf t) (rowTotal t) (t .shape .offers) (t .shape .k) (t .level .a) (t .level .b) 0 (length work)) 0 (sym free) refl)
-            ∙ run-free (cleared (rowTotal t) work) (λ _. work) (length table) (length work) z h l
+        trial-work = call-done (λ x m n. fullWork x m n (t .shape .k) (t .level .a) (t .level .b) 0 work) (cleared (rowTotal t) work) (λ _. work) (sym (accepted (cleared (rowTotal t) work) (λ _. work) checks 0 (sym free) refl))
 
 -- ---- the sizes that a full run tells
 

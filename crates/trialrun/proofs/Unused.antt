@@ -1,5 +1,6 @@
 -- Places that the counts of a record don't use change nothing: two records of the same trial have the same
 --   run-same                         full run
+--   asked-same                       conditions of a call with these buffers
 --   answer-same                      answer of a call for the full run
 --   runTable-same, runWork-same      buffers after it
 use Prim.Native.Nat.{ℕ, _*_}
@@ -24,7 +25,7 @@ module _ (t u : Trial) (s : Same t u) where
   unfolding trialRun
   run-same = ap₂ (λ (x : List Float) (m : ℕ). tableRun x m (t .shape .offers) (t .shape .k) (t .level .a) (t .level .b) 0) (table-same t u s) (rows-same t u s) ∙ ap (λ (c : Contents). tableRun (tableOf u) (rowTotal u) (c .setting .shape .offers) (c .setting .shape .k) (c .setting .level .a) (c .setting .level .b) 0) s
 
-  asked-same : (places work : ℕ) → runCallChecks t places work ≡ runCallChecks u places work
+  pub asked-same : (places work : ℕ) → runCallChecks t places work ≡ runCallChecks u places work
   asked-same places work =
       ap₂ (λ (cs : Checks) (m : ℕ). cs ++ (tooShort places (m * t .shape .offers) ++ tooShort work m)) (checks-same t u s) (rows-same t u s)
       ∙ ap (λ (n : ℕ). trialChecks u ++ (tooShort places (rowTotal u * n) ++ tooShort work (rowTotal u))) (offers-same t u s)

@@ -1,0 +1,70 @@
+-- The call for the figures of a trial: its table is accepted, so the answer is that of the call for the table's figures.
+--   table-passes, call-passes       the table of an accepted trial passes the checks of a table whose figures are asked for, with a work buffer that is long enough too
+--   table-figured, table-cleared    what is answered for that table, and the work buffer after it
+--   trial-figures-answered          an accepted trial with buffers that are long enough is answered by its figures
+--   figures-done, work-done         what the code asks of the table in its buffer is the answer for the trial
+use Prim.Native.Nat.{ℕ, _*_, _≤_}
+use native.Mathlib.Omega.{arith}
+use mathlib.Core.Path.{_≡_, refl, sym, _∙_}
+use mathlib.Core.List.{List}
+use lib.ListN.{length, take}
+use lib.Ieee.{Float}
+use borrow.Author.Tests.{le-ltb}
+use Rattle.refusals.specs.Answers.{Checks, firstRefusal}
+use Rattle.refusals.specs.Buffers.{tooShort, cleared}
+use Rattle.refusals.proofs.Answers.{none-holds, none-first, first-passes, accepted}
+use Rattle.stepdown.specs.Refusals.{tableChecks, tableRefusal}
+use Rattle.adjustment.specs.Answers.{figureChecks, figureCallChecks, figureCallRefusal, acceptedFigures, refusedFigures, figuresAnswer, figuresWork}
+use Rattle.adjustment.specs.declared.Adjusted.{Adjusted}
+use Rattle.trial.specs.Exchange.{rowTotal, tableOf}
+use Rattle.trial.specs.Refusals.{trialRefusal}
+use Rattle.trial.specs.Lent.{sizeOf, tableBuffer}
+use Rattle.trial.specs.declared.Trial.{Trial}
+use Rattle.trial.specs.declared.TableSize.{TableSize}
+use Rattle.trial.proofs.Calls.{known, size-is, sized}
+use Rattle.trialrun.specs.TrialRuns.{runWork}
+use Rattle.trialrun.proofs.Runs.{table-accepted, run-free, call-done}
+use Rattle.trialadjustment.specs.TrialFigures.{trialFigures, trialFiguresAnswer}
+
+module _ (t : Trial) (ok : trialRefusal t ≡ 0) where
+  -- those of a table but that of its level
+  pub table-passes : firstRefusal (figureChecks (tableOf t) (rowTotal t) (t .shape .offers) (t .shape .k) 0) ≡ 0
+  unfolding tableRefusal tableChecks figureChecks
+  table-passes =
+      let f = none-holds (tableChecks (tableOf t) (rowTotal t) (t .shape .offers) (t .shape .k) (t .level .a) (t .level .b) 0) (table-accepted t (known t 0 (sym ok) refl)) in
+      none-first (figureChecks (tableOf t) (rowTotal t) (t .shape .offers) (t .shape .k) 0) (f .0, (f .1 .1 .0, (f .1 .1 .1 .0, (f .1 .1 .1 .1 .0, tt))))
+
+  abbrev checks : ℕ → Checks
+  checks places = figureCallChecks (tableOf t) (rowTotal t) (t .shape .offers) (t .shape .k) 0 places
+
+  pub call-passes : (places : ℕ) → rowTotal t ≤ places → figureCallRefusal (tableOf t) (rowTotal t) (t .shape .offers) (t .shape .k) 0 places ≡ 0
+  unfolding figureCallRefusal
+  call-passes places h = first-passes (figureChecks (tableOf t) (rowTotal t) (t .shape .offers) (t .shape .k) 0) (tooShort places (rowTotal t)) 0 (sym table-passes) refl ∙ none-first (tooShort places (rowTotal t)) (le-ltb places (rowTotal t) h, tt)
+
+  pub table-figured : (places : ℕ) → rowTotal t ≤ places → figuresAnswer (tableOf t) (rowTotal t) (t .shape .offers) (t .shape .k) 0 places ≡ acceptedFigures (rowTotal t) (trialFigures t)
+  unfolding figuresAnswer figureCallRefusal trialFigures
+  table-figured places h = sym (accepted (acceptedFigures (rowTotal t) (trialFigures t)) refusedFigures (checks places) 0 (sym (call-passes places h)) refl)
+
+  pub table-cleared : (work : List Float) → rowTotal t ≤ length work → figuresWork (tableOf t) (rowTotal t) (t .shape .offers) (t .shape .k) 0 work ≡ cleared (rowTotal t) work
+  unfolding figuresWork figureCallRefusal
+  table-cleared work h = sym (accepted (cleared (rowTotal t) work) (λ _. work) (checks (length work)) 0 (sym (call-passes (length work) h)) refl)
+
+  pub trial-figures-answered : (places work : ℕ) → rowTotal t * t .shape .offers ≤ places → rowTotal t ≤ work → trialFiguresAnswer t places work ≡ acceptedFigures (rowTotal t) (trialFigures t)
+  unfolding trialFiguresAnswer
+  trial-figures-answered places work h l =
+      sym (run-free t (record { refusal = 0; rows = rowTotal t; columns = t .shape .offers }) (size-is t 0 (sym ok) refl) (acceptedFigures (rowTotal t) (trialFigures t)) refusedFigures places work refl h l)
+
+module _ (t : Trial) (s : TableSize) (q : s ≡ sizeOf t) (z : s .refusal ≡ 0) (table : List Float) (h : s .rows * s .columns ≤ length table) (w : List Float) (e : w ≡ tableBuffer t table) (work : List Float) (l : s .rows ≤ length work) where
+  ok : trialRefusal t ≡ 0
+  ok = sym (sized t s q .refusal-is) ∙ z
+
+  room : rowTotal t ≤ length work
+  room = omega (arith, sized t s q .rows-are z)
+
+  pub figures-done : (r : Adjusted) → r ≡ figuresAnswer (take (s .rows * s .columns) w) (s .rows) (s .columns) (t .shape .k) 0 (length work) → r ≡ trialFiguresAnswer t (length table) (length work)
+  unfolding trialFiguresAnswer
+  figures-done = call-done t s q z table h w e work l (λ x m n. figuresAnswer x m n (t .shape .k) 0 (length work)) (acceptedFigures (rowTotal t) (trialFigures t)) refusedFigures (table-figured t ok (length work) room)
+
+  pub work-done : (v : List Float) → v ≡ figuresWork (take (s .rows * s .columns) w) (s .rows) (s .columns) (t .shape .k) 0 work → v ≡ runWork t (length table) work
+  unfolding runWork
+  work-done = call-done t s q z table h w e work l (λ x m n. figuresWork x m n (t .shape .k) 0 work) (cleared (rowTotal t) work) (λ _. work) (table-cleared t ok work room)
