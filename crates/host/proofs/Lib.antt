@@ -4,4 +4,6 @@ pub mod Putting
 pub mod StepBytes
 pub mod Tables
 pub mod Files
+pub mod FigureAnswers
+pub mod AdjustedTables
 pub mod Examples

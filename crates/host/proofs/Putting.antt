@@ -1,9 +1,10 @@
 -- Laws of a loop that puts a number for each of the first n members of an array into a lent buffer.
 --   put-start, put-turn, put-end    before the first place, one more, and after the last
+--   put-same-end         after the last, where the members are the numbers
 use Prim.Native.Nat.{ℕ, _+_, _≤_, _<_}
 use native.Mathlib.Omega.{arith}
 use mathlib.Core.Path.{_≡_, sym, ap, _∙_}
-use mathlib.Core.List.{List, map}
+use mathlib.Core.List.{List, map, map-id}
 use lib.ListN.{length, getD, take, set}
 use lib.Seq.{getD-take, length-take-le}
 use Rattle.refusals.specs.Buffers.{written}
@@ -22,3 +23,6 @@ module _ {A : Type 0} (f : A → ℕ) (d : A) (xs : List A) (n : ℕ) (out₀ : 
 
     pub put-end : i ≤ n → n ≤ i → out ≡ written (map f (take n xs)) out₀
     put-end h l = let m = length-take-le n xs k in filled-end f (take n xs) out₀ d i out (omega arith) (omega arith) e
+
+pub put-same-end : (xs : List ℕ) (n : ℕ) (out₀ : List ℕ) (i : ℕ) (out : List ℕ) → out ≡ filled (λ (x : ℕ). x) (take n xs) i out₀ → n ≤ length xs → i ≤ n → n ≤ i → out ≡ written (take n xs) out₀
+put-same-end xs n out₀ i out e k h l = put-end (λ (x : ℕ). x) 0 xs n out₀ i out e k h l ∙ ap (λ (ys : List ℕ). written ys out₀) (map-id (take n xs))
