@@ -6,4 +6,5 @@ pub mod Tables
 pub mod Files
 pub mod FigureAnswers
 pub mod AdjustedTables
+pub mod AdjustedFiles
 pub mod Examples

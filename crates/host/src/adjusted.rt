@@ -3,7 +3,7 @@ ghost use mathlib.Core.Path.{_≡_};
 ghost use Prim.Native.Nat.{ℕ, _≤_, _<_};
 ghost use lib.ListN.{length, getD, take};
 ghost use Rattle.refusals.specs.Buffers.{written};
-ghost use Rattle.host.specs.AdjustedCalls.{tableAdjustedAnswer, tableAdjustedWork, tableAdjustedBuffer};
+ghost use Rattle.host.specs.AdjustedCalls.{tableAdjustedAnswer, tableAdjustedWork, tableAdjustedBuffer, trialAdjustedAnswer, trialAdjustedBuffer, trialAdjustedRows};
 
 // The first n figures into the first places of a buffer.
 fn put_figures(all: [usize; 32], n: usize, out: &mut [u32])
@@ -46,5 +46,30 @@ pub extern "C" fn becardlarder_table_adjusted(
     }
     let all = told.figures;
     put_figures(all, columns, figures);
+    0
+}
+
+// The adjusted figures of the trial of a file. The result is 0, or 100 plus the refusal number.
+// The first places of `figures` then hold a figure for each offer, and `rows` holds M; where the call is refused both are unchanged.
+#[no_mangle]
+pub extern "C" fn becardlarder_trial_adjusted(file: &[u8], figures: &mut [u32], rows: &mut u32) -> u32
+    ensures { λ r. ⌜ r ≡ trialAdjustedAnswer (now (file .entry)) (length (now (figures .entry))) ⌝ }
+    ensures { λ r. ⌜ now (figures .exit) ≡ trialAdjustedBuffer (now (file .entry)) (now (figures .entry)) ⌝ }
+    ensures { λ r. ⌜ now (rows .exit) ≡ trialAdjustedRows (now (file .entry)) (length (now (figures .entry))) (now (rows .entry)) ⌝ }
+{
+    let answer = trialadjustment::file_figures(file);
+    let told = answer.adjusted;
+    let refusal = told.refusal;
+    if refusal != 0 {
+        return 100 + refusal;
+    }
+    let trial = answer.trial;
+    let offers = trial.shape.offers;
+    if figures.len() < offers {
+        return 112;
+    }
+    let all = told.figures;
+    put_figures(all, offers, figures);
+    *rows = told.rows as u32;
     0
 }
