@@ -53,13 +53,13 @@ unfolding firstRefusal fileChecks
 trialAdjustedRefusal bytes places = firstRefusal (trialAdjustedChecks bytes places)
 
 unfoldable pub trialAdjustedAnswer : List ℕ → ℕ → ℕ
-unfolding answer fileChecks
+unfolding answer fileChecks trialOf wordsOf
 trialAdjustedAnswer bytes places = answer (trialAdjustedChecks bytes places) 0 (λ n. 100 + n)
 
 unfoldable pub trialAdjustedBuffer : List ℕ → List ℕ → List ℕ
-unfolding answer fileChecks trialFigures
+unfolding answer fileChecks trialFigures trialOf wordsOf
 trialAdjustedBuffer bytes buf = afterwards (trialAdjustedChecks bytes (length buf)) (written (trialFigures (trialOf (wordsOf bytes))) buf) buf
 
 unfoldable pub trialAdjustedRows : List ℕ → ℕ → ℕ → ℕ
-unfolding answer fileChecks rowTotal
+unfolding answer fileChecks rowTotal trialOf wordsOf
 trialAdjustedRows bytes places old = afterwards (trialAdjustedChecks bytes places) (rowTotal (trialOf (wordsOf bytes))) old
