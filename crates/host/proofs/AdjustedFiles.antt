@@ -89,5 +89,5 @@ module _ (bytes : List ℕ) (f : FileFigures) (e : f ≡ fileFigures bytes) wher
       unfolding trialAdjustedAnswer trialAdjustedBuffer trialAdjustedRows
       figured-done h out p =
           let d = given-done (fileChecks bytes) (fileOffers bytes) 0 (trialFigures read) buf (rowTotal read) old (f .adjusted .refusal) number z (omega (arith, offers-are z))
-              0 refl out (p ∙ ap (λ (l : List ℕ). written l buf) (first z)) (f .adjusted .rows) (rows-are z) in
+          0 refl out (p ∙ ap (λ (l : List ℕ). written l buf) (first z)) (f .adjusted .rows) (rows-are z) in
           (d .0, (d .1, d .2))

@@ -1,6 +1,5 @@
 -- Laws of an answer that tells figures: accepted with M rows and the figures fs, or refused.
 --   number-is, number-fits   its refusal is the first of the conditions, and has two digits at most
---   taken                    what it is where it is accepted
 --   figures-first, figures-most     its first figures are fs, and none of them is above M
 use Prim.Native.Nat.{ℕ, _-_, _≤_, _<_}
 use native.Mathlib.Omega.{arith}
@@ -22,7 +21,7 @@ module _ (cs : Checks) (rows : ℕ) (fs : List ℕ) (f : Adjusted) (e : f ≡ an
   number-fits = omega (arith, number-is, first-short cs)
 
   module _ (z : f .refusal ≡ 0) where
-    pub taken : f ≡ acceptedFigures rows fs
+    taken : f ≡ acceptedFigures rows fs
     taken = e ∙ sym (accepted (acceptedFigures rows fs) refusedFigures cs (f .refusal) number-is z)
 
     module _ (n : ℕ) (l : length fs ≡ n) where

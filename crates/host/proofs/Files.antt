@@ -81,5 +81,5 @@ module _ (bytes : List ℕ) (f : FileRun) (e : f ≡ fileRun bytes) where
       file-done h out p n q =
           let g = ap (λ (x : FileRun). x .run .decisions) e in
           let d = given-done {A = Unit {0}} (fileChecks bytes) (fileOffers bytes) result steps buf tt tt (f .run .refusal) number-is z (omega (arith, offers-are z))
-              n (q ∙ ap₂ rejectedCount (offers-are z) g) out (p ∙ ap₂ (λ (i : ℕ) (l : List Decision). written (stepBytes i l) buf) (offers-are z) g) tt refl in
+          n (q ∙ ap₂ rejectedCount (offers-are z) g) out (p ∙ ap₂ (λ (i : ℕ) (l : List Decision). written (stepBytes i l) buf) (offers-are z) g) tt refl in
           (d .0, d .1)

@@ -1,6 +1,7 @@
 -- Laws of every call: conditions, and then a lent buffer that is too short.
 --   roomy, short             the buffer is long enough, and the conditions before it decide; it is too short, and they let the call by
 --   Given                    a result, a buffer and something else that is lent are what a call gives
+--   given-by                 they are, where the call is refused by n
 --   given-refused, given-short, given-done     they are, where the conditions before the buffer refuse, where 12 does, and where the call is accepted
 --   cramped-number, cramped-refused     a table with no place for each column: the call is refused as one with no work place is, and that one always is
 use Prim.Native.Nat.{ℕ, zero, suc, _+_, _≤_, _<_}

@@ -52,7 +52,11 @@ pub extern "C" fn becardlarder_table_adjusted(
 // The adjusted figures of the trial of a file. The result is 0, or 100 plus the refusal number.
 // The first places of `figures` then hold a figure for each offer, and `rows` holds M; where the call is refused both are unchanged.
 #[no_mangle]
-pub extern "C" fn becardlarder_trial_adjusted(file: &[u8], figures: &mut [u32], rows: &mut u32) -> u32
+pub extern "C" fn becardlarder_trial_adjusted(
+    file: &[u8],
+    figures: &mut [u32],
+    rows: &mut u32,
+) -> u32
     ensures { λ r. ⌜ r ≡ trialAdjustedAnswer (now (file .entry)) (length (now (figures .entry))) ⌝ }
     ensures { λ r. ⌜ now (figures .exit) ≡ trialAdjustedBuffer (now (file .entry)) (now (figures .entry)) ⌝ }
     ensures { λ r. ⌜ now (rows .exit) ≡ trialAdjustedRows (now (file .entry)) (length (now (figures .entry))) (now (rows .entry)) ⌝ }

@@ -24,7 +24,8 @@ put-figures-requires c κs =
 cast-rows : tie.Need-cast-rows
 cast-rows c =
     let e = c .before .before .before .before .before .before .before .before in
-    record { fits = omega (arith, figured-known _ _ (e .before .before .file-figures .ensures) (e .if1 .left) .2) }
+    let k = figured-known _ _ (e .before .before .file-figures .ensures) (e .if1 .left) in
+    record { fits = omega arith }
 
 returns-3 : tie.Need-returns-3
 returns-3 c =
