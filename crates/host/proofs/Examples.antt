@@ -1,13 +1,16 @@
 -- Examples of document 01, by the calls for C: the trial W as a file, of which 0042 is rejected in step 1 and 7 is kept, and the table P, of which step 1 rejects two.
+-- Their adjusted figures are 1 and 3 of 8 rows, and 0, 1 and 2.
 use mathlib.Core.Path.{_≡_, refl}
 use mathlib.Core.List.{[], _∷_}
 use lib.Ieee.{lt, le}
+use Rattle.refusals.specs.Limits.{badSizes}
 use Rattle.runs.specs.FullRuns.{acceptedRun}
 use Rattle.runs.specs.Examples.{P}
 use Rattle.words.specs.Words.{bytesOf, signed}
 use Rattle.trialfile.specs.Examples.{wordsW}
 use Rattle.trialrun.specs.TrialRuns.{trialRun}
 use Rattle.host.specs.Calls.{trialVerdictsAnswer, trialVerdictsBuffer, tableVerdictsAnswer, tableVerdictsBuffer}
+use Rattle.host.specs.AdjustedCalls.{trialAdjustedAnswer, trialAdjustedBuffer, trialAdjustedRows, tableAdjustedAnswer, tableAdjustedBuffer}
 
 -- one offer is rejected
 pub w-answer : trialVerdictsAnswer (bytesOf wordsW) 2 ≡ 1
@@ -31,3 +34,17 @@ p-answer = refl
 pub p-bytes : tableVerdictsBuffer P 4 3 2 1 4 0 4 (7 ∷ 7 ∷ 7 ∷ 7 ∷ []) ≡ 1 ∷ 1 ∷ 0 ∷ 7 ∷ []
 unfolding tableVerdictsBuffer lt le
 p-bytes = refl
+
+-- ---- adjusted figures
+
+pub w-adjusted : (trialAdjustedAnswer (bytesOf wordsW) 3 ≡ 0) × (trialAdjustedBuffer (bytesOf wordsW) (7 ∷ 7 ∷ 7 ∷ []) ≡ 1 ∷ 3 ∷ 7 ∷ []) × (trialAdjustedRows (bytesOf wordsW) 3 7 ≡ 8)
+unfolding trialAdjustedAnswer trialAdjustedBuffer trialAdjustedRows bytesOf wordsW signed lt le
+w-adjusted = (refl, refl, refl)
+
+pub w-adjusted-short : (trialAdjustedAnswer (bytesOf wordsW) 1 ≡ 112) × (trialAdjustedBuffer (bytesOf wordsW) (7 ∷ []) ≡ 7 ∷ []) × (trialAdjustedRows (bytesOf wordsW) 1 7 ≡ 7)
+unfolding trialAdjustedAnswer trialAdjustedBuffer trialAdjustedRows bytesOf wordsW signed
+w-adjusted-short = (refl, refl, refl)
+
+pub p-adjusted : (tableAdjustedAnswer P 4 3 2 0 4 4 ≡ 0) × (tableAdjustedBuffer P 4 3 2 0 4 (7 ∷ 7 ∷ 7 ∷ 7 ∷ []) ≡ 0 ∷ 1 ∷ 2 ∷ 7 ∷ [])
+unfolding tableAdjustedAnswer tableAdjustedBuffer badSizes lt le
+p-adjusted = (refl, refl)

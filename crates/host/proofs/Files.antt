@@ -1,16 +1,16 @@
--- Laws of the call on a file.
+-- Laws of the call for the verdicts of a file.
 --   file-fits                a file's refusal has two digits at most
 --   file-known               an accepted file has at most 32 offers, and its steps are small
 --   file-refused, file-short, file-done     each answer with its buffer: the file is turned away, 12, the steps are written
 use Prim.Native.Nat.{ℕ, _+_, _≤_, _<_}
 use native.Mathlib.Omega.{arith}
-use mathlib.Core.Path.{_≡_, refl, sym, ap, _∙_, subst}
+use mathlib.Core.Path.{_≡_, refl, sym, ap, ap₂, _∙_, subst}
 use mathlib.Core.List.{List}
 use lib.ListN.{length}
 use lib.Dec.{T}
-use Rattle.refusals.specs.Answers.{Checks, firstRefusal}
-use Rattle.refusals.specs.Buffers.{tooShort, written}
-use Rattle.refusals.proofs.Answers.{answer-map, first-decides, first-short}
+use Rattle.refusals.specs.Answers.{firstRefusal}
+use Rattle.refusals.specs.Buffers.{written}
+use Rattle.refusals.proofs.Answers.{answer-map, first-short}
 use Rattle.runs.specs.FullRuns.{acceptedRun}
 use Rattle.verdicts.specs.Verdicts.{rejectedCount}
 use Rattle.verdicts.specs.Internal.{smallSteps}
@@ -23,9 +23,10 @@ use Rattle.trialfile.proofs.RoundTrip.{read-accepted}
 use Rattle.trialrun.specs.TrialRuns.{trialRun}
 use Rattle.trialrun.specs.FileRuns.{acceptedFile, refusedFile, fileRun}
 use Rattle.trialrun.specs.declared.FileRun.{FileRun}
-use Rattle.host.specs.Calls.{stepBytes, fileOffers, trialVerdictsChecks, trialVerdictsAnswer, trialVerdictsBuffer}
+use Rattle.runs.specs.declared.Decision.{Decision}
+use Rattle.host.specs.Calls.{stepBytes, fileOffers, trialVerdictsAnswer, trialVerdictsBuffer}
 use Rattle.host.proofs.StepBytes.{table-steps}
-use Rattle.host.proofs.VerdictBuffer.{roomy, short, call-refused, call-done}
+use Rattle.host.proofs.Lent.{given-refused, given-short, given-done}
 use Rattle.refusals.proofs.Answers as answers
 
 module _ (bytes : List ℕ) (f : FileRun) (e : f ≡ fileRun bytes) where
@@ -54,31 +55,31 @@ module _ (bytes : List ℕ) (f : FileRun) (e : f ≡ fileRun bytes) where
     subst (λ (x : FileRun). T (smallSteps (x .run .decisions))) (sym (taken z)) (table-steps (tableOf read) (rowTotal read) (read .shape .offers) (read .shape .k) (read .level .a) (read .level .b) 0),
   )
 
-  -- ---- the answers
+  -- ---- the answers; nothing but the buffer is lent
 
   module _ (buf : List ℕ) where
-    abbrev checks : Checks
-    checks = trialVerdictsChecks bytes (length buf)
-
     abbrev Done : ℕ → List ℕ → Type 0
     Done r out = (r ≡ trialVerdictsAnswer bytes (length buf)) × (out ≡ trialVerdictsBuffer bytes buf)
 
-    refused-by : (n : ℕ) → n ≡ firstRefusal checks → (n ≡ 0 → ⊥) → Done (100 + n) buf
-    unfolding trialVerdictsAnswer trialVerdictsBuffer
-    refused-by n q = call-refused checks (fileOffers bytes) (fileRun bytes .run .decisions) buf n q
+    abbrev result : ℕ
+    result = rejectedCount (fileOffers bytes) (fileRun bytes .run .decisions)
+
+    abbrev steps : List ℕ
+    steps = stepBytes (fileOffers bytes) (fileRun bytes .run .decisions)
 
     pub file-refused : (f .run .refusal ≡ 0 → ⊥) → Done (100 + f .run .refusal) buf
-    file-refused z = refused-by (f .run .refusal) (sym (first-decides (fileChecks bytes) (tooShort (length buf) (fileOffers bytes)) (f .run .refusal) number-is z)) z
+    unfolding trialVerdictsAnswer trialVerdictsBuffer
+    file-refused z = let d = given-refused {A = Unit {0}} (fileChecks bytes) (fileOffers bytes) result steps buf tt tt (f .run .refusal) number-is z in (d .0, d .1)
 
     module _ (z : f .run .refusal ≡ 0) where
-      free : 0 ≡ firstRefusal (fileChecks bytes)
-      free = sym z ∙ number-is
-
       pub file-short : length buf < f .trial .shape .offers → Done 112 buf
-      file-short h = refused-by 12 (short (fileChecks bytes) (length buf) (fileOffers bytes) free (omega (arith, offers-are z))) (λ n. omega arith)
+      unfolding trialVerdictsAnswer trialVerdictsBuffer
+      file-short h = let d = given-short {A = Unit {0}} (fileChecks bytes) (fileOffers bytes) result steps buf tt tt (f .run .refusal) number-is z (omega (arith, offers-are z)) in (d .0, d .1)
 
       pub file-done : f .trial .shape .offers ≤ length buf → (out : List ℕ) → out ≡ written (stepBytes (f .trial .shape .offers) (f .run .decisions)) buf → (n : ℕ) → n ≡ rejectedCount (f .trial .shape .offers) (f .run .decisions) → Done n out
-      unfolding trialVerdictsAnswer trialVerdictsBuffer firstRefusal
+      unfolding trialVerdictsAnswer trialVerdictsBuffer
       file-done h out p n q =
-          let g = free ∙ roomy (fileChecks bytes) (length buf) (fileOffers bytes) 0 (λ n. n) (omega (arith, offers-are z)) in
-          call-done checks (fileOffers bytes) (fileRun bytes .run .decisions) buf 0 g refl (f .trial .shape .offers) (f .run .decisions) (offers-are z) (ap (λ (x : FileRun). x .run .decisions) e) n q out p
+          let g = ap (λ (x : FileRun). x .run .decisions) e in
+          let d = given-done {A = Unit {0}} (fileChecks bytes) (fileOffers bytes) result steps buf tt tt (f .run .refusal) number-is z (omega (arith, offers-are z))
+          n (q ∙ ap₂ rejectedCount (offers-are z) g) out (p ∙ ap₂ (λ (i : ℕ) (l : List Decision). written (stepBytes i l) buf) (offers-are z) g) tt refl in
+          (d .0, d .1)

@@ -1,5 +1,10 @@
+pub mod Lent
+pub mod TableCalls
+pub mod Putting
 pub mod StepBytes
-pub mod VerdictBuffer
 pub mod Tables
 pub mod Files
+pub mod FigureAnswers
+pub mod AdjustedTables
+pub mod AdjustedFiles
 pub mod Examples

@@ -1,5 +1,7 @@
 // The calls for hosts written in C. include/becardlarder.h documents them for a C programmer; a slice is a pointer and a length there.
 // The definitions are in specs/, their laws in proofs/.
+mod adjusted; // the calls that tell adjusted figures
+
 use runs::Decision;
 ghost use mathlib.Core.Path.{_≡_};
 ghost use Prim.Native.Nat.{_≤_};

@@ -1,6 +1,6 @@
 -- `becardlarder_table_verdicts`: where there is no byte for each column only the refusal is looked for; otherwise the table is run, the steps are written and the rejected counted.
 use native.Mathlib.Omega.{arith}
-use Rattle.host.proofs.VerdictBuffer.{count-fits}
+use Rattle.host.proofs.StepBytes.{count-fits}
 use Rattle.host.proofs.Tables.{table-fits, table-known, table-short, table-refused, table-done}
 use borrow.Author.Needs.{needs}
 use Rattle.host.proofs.becardlarder_table_verdicts.Statement.{statement}

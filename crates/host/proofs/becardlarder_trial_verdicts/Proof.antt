@@ -1,7 +1,7 @@
 -- `becardlarder_trial_verdicts`: the file is run, the buffer is measured, the steps are written and the rejected counted.
 use native.Mathlib.Omega.{arith}
 use borrow.Author.Needs.{needs}
-use Rattle.host.proofs.VerdictBuffer.{count-fits}
+use Rattle.host.proofs.StepBytes.{count-fits}
 use Rattle.host.proofs.Files.{file-fits, file-known, file-refused, file-short, file-done}
 use Rattle.host.proofs.becardlarder_trial_verdicts.Statement.{statement}
 use Rattle.host.proofs.becardlarder_trial_verdicts.Tie as tie

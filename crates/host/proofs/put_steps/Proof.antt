@@ -7,7 +7,8 @@ use lib.ListN.{length, take, length-set}
 use borrow.Author.Needs.{needs}
 use Rattle.refusals.proofs.Buffers.{filled}
 use Rattle.verdicts.specs.Internal.{smallSteps}
-use Rattle.host.proofs.StepBytes.{stepOf, step-small, put-start, put-turn, put-end}
+use Rattle.host.proofs.StepBytes.{stepOf, some-verdict, step-small}
+use Rattle.host.proofs.Putting.{put-start, put-turn, put-end}
 use Rattle.host.proofs.put_steps.Statement.{statement}
 use Rattle.host.proofs.put_steps.Tie as tie
 
@@ -18,7 +19,7 @@ abbrev μ-loop : tie.MeasureT-loop
 μ-loop n out₀ decisions i₀ out i = n - i
 
 loop-holds : tie.Need-loop-holds Inv-loop μ-loop
-loop-holds c = let p = c .before .pre in (omega arith, p .0, p .1, p .2, search needs, refl, put-start (c .before .args .t1) (c .before .args .n) (c .before .args .out .now))
+loop-holds c = let p = c .before .pre in (omega arith, p .0, p .1, p .2, search needs, refl, put-start stepOf some-verdict (c .before .args .t1) (c .before .args .n) (c .before .args .out .now))
 
 cast-out : tie.Need-cast-out Inv-loop μ-loop
 cast-out c =
@@ -29,10 +30,10 @@ loop-again : tie.Need-loop-again Inv-loop μ-loop
 loop-again c =
     let l = c .before .before .before .loop .inv in
     let t = c .before .before .loop-test .taken in
-    (omega arith, l .1, l .2, l .3, l .4, simp length-set (l .5), put-turn _ _ _ _ (c .rejecting-step .ensures) _ _ _ t (omega (arith, l .1, l .4)) (l .2) (l .6))
+    (omega arith, l .1, l .2, l .3, l .4, simp length-set (l .5), put-turn stepOf _ _ _ _ _ _ (l .6) (omega (arith, l .1, l .4)) _ (c .rejecting-step .ensures) t (l .2))
 
 returns : tie.Need-returns Inv-loop μ-loop
-returns c = let l = c .before .loop .inv in put-end _ _ _ _ _ (l .0) (c .loop-test .left) (omega (arith, l .1, l .4)) (l .6)
+returns c = let l = c .before .loop .inv in put-end stepOf some-verdict _ _ _ _ _ (l .6) (omega (arith, l .1, l .4)) (l .0) (c .loop-test .left)
 
 pub put-steps-spec : {M : Type 1} → statement M
 put-steps-spec =
