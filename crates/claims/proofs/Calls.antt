@@ -16,7 +16,7 @@ use Rattle.order.specs.Lists.{rowsOf}
 use Rattle.refusals.specs.Answers.{r1, r3, r4, r9, r10, r11, r12, r13, r14, placesFrom, answer}
 use Rattle.limits.specs.Limits.{offersMost}
 use Rattle.refusals.specs.Limits.{badColumns, badLevel}
-use Rattle.refusals.specs.Buffers.{tooShort, written}
+use Rattle.refusals.specs.Buffers.{tooShort, written, cleared}
 use Rattle.refusals.proofs.Answers.{answered, answer-map}
 use Rattle.runs.specs.FullRuns.{noRecord, acceptedRun, refusedRun}
 use Rattle.runs.specs.Tables.{tableRun}
@@ -40,13 +40,15 @@ use Rattle.trial.specs.declared.Trial.{Trial}
 use Rattle.words.specs.Words.{wordsOf, word}
 use Rattle.trialfile.specs.Layouts.{levelAt, shapeAt, layoutOf}
 use Rattle.words.specs.Words.{shapeIn}
-use Rattle.trialfile.specs.Files.{badLength, levelPlace, shapePlace, offerPlace, figurePlace, endPlace, bodyPlaces, fileChecks, fileRefusal, readingOf}
+use Rattle.trialfile.specs.Files.{badLength, levelPlace, shapePlace, offerPlace, figurePlace, endPlace, bodyPlaces, fileChecks, fileRefusal, trialOf, readingOf}
 use Rattle.trialfile.specs.Writings.{fileLength, writeChecks, writeRefusal, writingOf}
 use Rattle.trialfile.specs.declared.Writing.{Writing}
 use Rattle.trialfile.proofs.RoundTrip.{read-refusal}
 use Rattle.trialrun.specs.TrialRuns.{trialRun, runCallChecks, runCallRefusal, trialAnswer}
 use Rattle.trialrun.specs.FileRuns.{fileRun}
+use Rattle.trialadjustment.specs.TrialFigures.{trialFigures}
 use Rattle.host.specs.Calls.{stepBytes, fileOffers, trialVerdictsChecks, trialVerdictsRefusal, trialVerdictsAnswer, trialVerdictsBuffer, tableVerdictsChecks, tableVerdictsRefusal, tableVerdictsAnswer, tableVerdictsBuffer}
+use Rattle.host.specs.AdjustedCalls.{tableAdjustedChecks, tableAdjustedRefusal, tableAdjustedAnswer, tableAdjustedWork, tableAdjustedBuffer, trialAdjustedChecks, trialAdjustedRefusal, trialAdjustedAnswer, trialAdjustedBuffer, trialAdjustedRows}
 use Rattle.view.specs.Entries.{entryOf, held}
 use Rattle.stepdown.proofs.Calls as calls
 use Rattle.stepdown.proofs.StepByStep as steps
@@ -125,6 +127,11 @@ pub c-order : (file : List ℕ) (t : List Float) (rows columns k a b observed wo
 unfolding tableChecks
 c-order file t rows columns k a b observed work places = (refl, refl)
 
+pub c-adjusted-order : (file : List ℕ) (t : List Float) (rows columns k observed work places : ℕ)
+    → (trialAdjustedChecks file places ≡ fileChecks file ++ tooShort places (fileOffers file))
+    × (tableAdjustedChecks t rows columns k observed work places ≡ figureCallChecks t rows columns k observed work ++ tooShort places columns)
+c-adjusted-order file t rows columns k observed work places = (refl, refl)
+
 -- ==== the numbers and values that are answered ====
 
 pub begin-told : (rows columns k a b observed : ℕ) (r : Run)
@@ -181,6 +188,23 @@ pub c-table-accepted : (t : List Float) (rows columns k a b observed : ℕ) (wor
 unfolding tableVerdictsAnswer tableVerdictsBuffer tableVerdictsRefusal
 c-table-accepted t rows columns k a b observed work verdicts h =
     (answered (tableVerdictsChecks t rows columns k a b observed work (length verdicts)) _ (λ n. 100 + n) .gives h, answered (tableVerdictsChecks t rows columns k a b observed work (length verdicts)) _ (λ _. verdicts) .gives h)
+
+-- the calls for adjusted figures: 0, the figures in the first places, and M
+pub c-trial-adjusted : (file figures : List ℕ) (rows : ℕ) → trialAdjustedRefusal file (length figures) ≡ 0 → let t = trialOf (wordsOf file) in
+    (trialAdjustedAnswer file (length figures) ≡ 0) × (trialAdjustedBuffer file figures ≡ written (trialFigures t) figures) × (trialAdjustedRows file (length figures) rows ≡ rowTotal t)
+unfolding trialAdjustedAnswer trialAdjustedBuffer trialAdjustedRows trialAdjustedRefusal
+c-trial-adjusted file figures rows h =
+    let cs = trialAdjustedChecks file (length figures) in
+    (answered cs _ (λ n. 100 + n) .gives h, answered cs _ (λ _. figures) .gives h, answered cs _ (λ _. rows) .gives h)
+
+pub c-table-adjusted : (t : List Float) (rows columns k observed : ℕ) (work : List Float) (figures : List ℕ) → tableAdjustedRefusal t rows columns k observed (length work) (length figures) ≡ 0
+    → (tableAdjustedAnswer t rows columns k observed (length work) (length figures) ≡ 0)
+    × (tableAdjustedWork t rows columns k observed work (length figures) ≡ cleared rows work)
+    × (tableAdjustedBuffer t rows columns k observed (length work) figures ≡ written (tableFigures t rows columns k observed) figures)
+unfolding tableAdjustedAnswer tableAdjustedWork tableAdjustedBuffer tableAdjustedRefusal
+c-table-adjusted t rows columns k observed work figures h =
+    let cs = tableAdjustedChecks t rows columns k observed (length work) (length figures) in
+    (answered cs _ (λ n. 100 + n) .gives h, answered cs _ (λ _. work) .gives h, answered cs _ (λ _. figures) .gives h)
 
 -- a view of a whole table shows the values that the method looks at
 pub view-entry : (xs : List Float) (rows columns row column : ℕ) → length xs ≡ rows * columns → row < rows → column < columns
