@@ -1,21 +1,19 @@
--- Laws of how a trial was laid out, by its cases: nothing else knows them.
+-- Laws of how a trial was laid out, by its cases: nothing else of this crate knows them.
 --   rowCount-some, rowCount-power    there is a row; M as a power
---   table-pairs                      the table of a paired trial is one of signed sums
+--   rows-shift                       M as a shift
 --   LaidOut, laid-out                what an accepted layout is known to be
 --   layout-judged                    the code's test of a layout
 --   count-is, count-most             how many figures a trial has
 --   entry-small                      an entry is a whole number up to 2^53
-use Prim.Native.Nat.{ℕ, _*_, _^_, _≤_, _<_}
+use Prim.Native.Nat.{ℕ, _*_, _%_, _^_, _≤_, _<_}
 use native.Mathlib.Omega.{arith}
-use native.Mathlib.Nat.{mul-le-mul}
-use mathlib.Core.Path.{_≡_, refl, ap, _∙_}
+use native.Mathlib.Nat.{one-mul, mul-le-mul}
+use mathlib.Core.Path.{_≡_, refl, sym, ap, _∙_}
 use mathlib.Core.Bool.{Bool, cond}
-use mathlib.Core.List.{List, map}
+use mathlib.Core.List.{List}
 use lib.ListN.{length}
 use lib.IntN.{ℤ, natAbs}
-use lib.Ieee.{binary64, ofInt}
-use lib.Pow.{pow-mono, pow-pos}
-use Rattle.order.specs.Lists.{tabulate, rowsOf, joined}
+use lib.Pow.{pow-mono, pow-pos, shl-exact}
 use Rattle.limits.specs.Limits.{offersMost, pairsMost, figuresMost, trialRowsMost}
 use Rattle.refusals.specs.Answers.{r4, firstRefusal}
 use Rattle.refusals.specs.Limits.{outside}
@@ -23,7 +21,6 @@ use Rattle.refusals.proofs.Answers.{NoneHolds, judged-last}
 use Rattle.refusals.proofs.Limits.{inside}
 use Rattle.trial.specs.Designs.{designChecks, unitsOf, rowCount, entryOf}
 use Rattle.trial.specs.Record.{figureCount}
-use Rattle.trial.specs.Internal.{sumsTable}
 use Rattle.trial.specs.declared.Design.{Design}
 use Rattle.trial.specs.declared.Design.the-variants.{Paired}
 use Rattle.trial.specs.declared.Shape.{Shape}
@@ -37,10 +34,8 @@ pub rowCount-power : (d : Design) → rowCount d ≡ 2 ^ unitsOf d
 unfolding rowCount unitsOf
 rowCount-power (Paired n) = refl
 
-pub table-pairs : (d : Design) (offers : ℕ) (xs : List ℤ)
-    → joined (tabulate (rowCount d) (λ g. map (λ x. ofInt binary64 (entryOf d g x)) (rowsOf offers (unitsOf d) xs))) ≡ sumsTable (unitsOf d) offers xs
-unfolding rowCount unitsOf entryOf sumsTable
-table-pairs (Paired n) offers xs = refl
+pub rows-shift : (d : Design) (n : ℕ) → n ≡ unitsOf d → unitsOf d ≤ pairsMost → (1 * 2 ^ n) % 2 ^ 64 ≡ rowCount d
+rows-shift d n e h = shl-exact 1 n 64 (omega arith) (omega arith) ∙ one-mul (2 ^ n) ∙ ap (λ (m : ℕ). 2 ^ m) e ∙ sym (rowCount-power d)
 
 pub record LaidOut (d : Design) : Type 0 where
   pub units-some : 1 ≤ unitsOf d

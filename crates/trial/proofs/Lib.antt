@@ -4,9 +4,6 @@ pub mod LaidOut
 pub mod Accepted
 pub mod Tables
 pub mod Conditions
-pub mod Places
-pub mod Subtraction
-pub mod Doubling
 pub mod Calls
 pub mod Unused
 pub mod Exact

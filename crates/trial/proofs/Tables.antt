@@ -1,41 +1,38 @@
 -- Laws of a trial's table: its rows.
 --   drop-take                        a part of a first part
---   byOffer-figures                  the figures of each offer, in the array
 --   entries-small, rowOf-all         the entries of a row are at most 2^53, and what holds of such numbers holds of its values
 --   rowOf-.., trialRows-..           how long rows are, how many, which; those of an accepted trial are finite
 --   even-rows, tableOf-rows          the lent table has these rows
---   tableOf-sums                     and is the table that the code fills
---   figures-ranged                   the figures of an accepted trial are in range
 --   rowTotal-some                    there is a row
+--   joined-length, tableOf-length    how many members joined rows have: a table has M * offers places
 use Prim.Native.Nat.{ℕ, zero, suc, _+_, _*_, _^_, _≤_, _<_}
 use native.Mathlib.Omega.{arith}
-use native.Mathlib.Nat.{suc-mul}
+use native.Mathlib.Nat.{zero-mul, suc-mul}
 use native.Mathlib.Decide.{decLe}
-use mathlib.Core.Path.{_≡_, refl, sym, ap, ap₂, _∙_, subst}
+use mathlib.Core.Path.{_≡_, sym, ap, _∙_, subst}
 use mathlib.Core.Bool.{Bool, not, _&&_}
-use mathlib.Core.List.{List, [], _∷_, _++_, map}
+use mathlib.Core.List.{List, [], _∷_, _++_}
 use lib.ListN.{length, getD, take, drop, length-map, length-append, length-take, drop-of-length-le}
-use lib.Seq.{drop-at, take-take, take-add, take-nil, length-take-le, getD-take}
-use lib.Dec.{T, eqb, leb, eqb-refl, leb→le, le→leb}
-use lib.IntN.{ℤ, pos, natAbs}
+use lib.Seq.{drop-at, take-take, take-add, take-nil, length-take-le}
+use lib.Dec.{T, eqb, leb, eqb→eq, eqb-refl, leb→le, le→leb}
+use lib.IntN.{ℤ, natAbs}
 use lib.Ieee.{Float, binary64, ofInt}
 use Rattle.order.specs.Order.{finite}
 use Rattle.order.specs.Counting.{all}
-use Rattle.order.specs.Lists.{tabulate, rowsOf, joined}
+use Rattle.order.specs.Lists.{rowsOf, joined}
 use Rattle.order.proofs.Booleans.{and-both, and-left, and-right}
 use Rattle.order.proofs.Counts.{all-map, all-le}
 use Rattle.order.proofs.Lists.{tabulate-length, tabulate-getD, all-tabulate, all-take, all-drop, rowsOf-length, rowsOf-joined}
 use Rattle.order.proofs.Rows.{Sound, soundRow, sound-row}
-use Rattle.limits.specs.Limits.{pairsMost, differenceMost}
-use Rattle.trial.specs.Designs.{unitsOf, rowCount, entryOf}
+use Rattle.limits.specs.Limits.{pairsMost}
+use Rattle.trial.specs.Designs.{unitsOf, entryOf}
 use Rattle.trial.specs.Record.{figureCount, figuresOf}
 use Rattle.trial.specs.Exchange.{byOffer, rowTotal, rowOf, trialRows, tableOf}
 use Rattle.trial.specs.Refusals.{badDifference}
-use Rattle.trial.specs.Internal.{sumsTable, Ranged}
 use Rattle.trial.specs.declared.Trial.{Trial}
 use Rattle.trial.specs.declared.Design.{Design}
-use Rattle.trial.proofs.Sums.{InRange, all-in-range, whole-finite}
-use Rattle.trial.proofs.LaidOut.{rowCount-some, table-pairs, entry-small}
+use Rattle.trial.proofs.Sums.{InRange, whole-finite}
+use Rattle.trial.proofs.LaidOut.{rowCount-some, entry-small}
 use Rattle.trial.proofs.Accepted.{Accepted}
 
 -- ---- differences, offer by offer
@@ -65,21 +62,6 @@ offers-ok (suc m) n xs h =
 
     rest : drop n (take (suc m * n) xs) ≡ take (m * n) (drop n xs)
     rest = ap (λ (i : ℕ). drop n (take i xs)) sum ∙ drop-take n (m * n) xs
-
--- the figures that are used, offer by offer
-rowsOf-take : {A : Type 0} (m n : ℕ) (xs : List A) → rowsOf m n (take (m * n) xs) ≡ rowsOf m n xs
-unfolding rowsOf
-rowsOf-take zero n xs = refl
-rowsOf-take (suc m) n xs =
-    ap₂ (λ (r : List _) (rs : List (List _)). r ∷ rs) (take-take n (suc m * n) xs (omega (arith, suc-mul m n)))
-    (ap (rowsOf m n) (ap (λ (i : ℕ). drop n (take i xs)) sum ∙ drop-take n (m * n) xs) ∙ rowsOf-take m n (drop n xs))
-  where
-    sum : suc m * n ≡ n + m * n
-    sum = omega (arith, suc-mul m n)
-
-pub byOffer-figures : (t : Trial) → byOffer t ≡ rowsOf (t .shape .offers) (unitsOf (t .shape .design)) (t .figures)
-unfolding byOffer figureCount
-byOffer-figures t = rowsOf-take (t .shape .offers) (unitsOf (t .shape .design)) (t .figures)
 
 used-twice : (t : Trial) → take (t .shape .offers * unitsOf (t .shape .design)) (figuresOf t) ≡ figuresOf t
 unfolding figureCount
@@ -143,17 +125,13 @@ pub rowTotal-some : (t : Trial) → 0 < rowTotal t
 unfolding rowTotal
 rowTotal-some t = rowCount-some (t .shape .design)
 
--- ---- what the code fills
+pub joined-length : {A : Type 0} (n : ℕ) (rs : List (List A)) → T (all (λ r. eqb (length r) n) rs) → length (joined rs) ≡ length rs * n
+unfolding joined all
+joined-length n [] h = omega (arith, zero-mul n)
+joined-length n (r ∷ rs) h =
+    let l : length r ≡ n = eqb→eq (length r) n (and-left (eqb (length r) n) (all (λ r. eqb (length r) n) rs) h) in
+    length-append r (joined rs) ∙ omega (arith, l, joined-length n rs (and-right (eqb (length r) n) (all (λ r. eqb (length r) n) rs) h), suc-mul (length rs) n)
 
-pub tableOf-sums : (t : Trial) → tableOf t ≡ sumsTable (unitsOf (t .shape .design)) (t .shape .offers) (t .figures)
-unfolding tableOf trialRows rowTotal rowOf
-tableOf-sums t =
-    let d = t .shape .design in
-    ap (λ (os : List (List ℤ)). joined (tabulate (rowCount d) (λ g. map (λ x. ofInt binary64 (entryOf d g x)) os))) (byOffer-figures t) ∙ table-pairs d (t .shape .offers) (t .figures)
-
-pub figures-ranged : (t : Trial) → Accepted t → t .shape .offers * unitsOf (t .shape .design) ≤ length (t .figures) → Ranged (t .shape .offers * unitsOf (t .shape .design)) (t .figures)
-unfolding figureCount
-figures-ranged t acc h i k =
-    let n = t .shape .offers * unitsOf (t .shape .design) in
-    let l = length-take-le n (t .figures) h in
-    subst (λ (z : ℤ). natAbs z ≤ differenceMost) (getD-take n (t .figures) i (pos 0) k) (all-in-range (figuresOf t) (acc .in-range) i (omega arith))
+pub tableOf-length : (t : Trial) → length (tableOf t) ≡ rowTotal t * t .shape .offers
+unfolding tableOf
+tableOf-length t = joined-length (t .shape .offers) (trialRows t) (even-rows t) ∙ ap (λ (m : ℕ). m * t .shape .offers) (trialRows-length t)

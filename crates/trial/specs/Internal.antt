@@ -1,39 +1,10 @@
--- Definitions that only the private functions of this crate cite. Definitions only; a reader of the promises needs none of them.
---   sumsTable pairs offers xs        the table of paired offers whose differences stand in xs, offer by offer
+-- A definition that laws cite, and private functions of `trialtable`; no contract of this crate does. Definitions only; a reader of the promises doesn't need it.
 --   Ranged n xs                      the first n differences are in range
---   Fillable pairs offers xs places  the table of those differences can be made: they are there, in range, and so is room for it
---   twiceOf pairs j xs i             twice the difference of pair j of offer i, as an f64
---   begun n xs buf                   the buffer with the first n members of xs in its first places
---   lowered n off from at buf        the buffer with n places from `at` on made of those from `from` on, each less its own of `off`
-use Prim.Native.Nat.{ℕ, zero, suc, _+_, _*_, _^_, _≤_, _<_}
-use mathlib.Core.List.{List, _++_, map}
-use lib.ListN.{length, getD, take, drop, set}
-use lib.IntN.{ℤ, pos, natAbs, _+ℤ_}
-use lib.Ieee.{Float, nan, binary64, ofInt, sub}
-use Rattle.limits.specs.Limits.{offersMost, pairsMost, differenceMost}
-use Rattle.order.specs.Lists.{tabulate, rowsOf, joined}
-use Rattle.trial.specs.Designs.{signedSum}
-
-unfoldable pub sumsTable : ℕ → ℕ → List ℤ → List Float
-unfolding joined tabulate rowsOf signedSum ofInt
-sumsTable pairs offers xs = joined (tabulate (2 ^ pairs) (λ g. map (λ ds. ofInt binary64 (signedSum g ds)) (rowsOf offers pairs xs)))
+use Prim.Native.Nat.{ℕ, _≤_, _<_}
+use mathlib.Core.List.{List}
+use lib.ListN.{getD}
+use lib.IntN.{ℤ, pos, natAbs}
+use Rattle.limits.specs.Limits.{differenceMost}
 
 abbrev pub Ranged : ℕ → List ℤ → Type 0
 Ranged n xs = (i : ℕ) → i < n → natAbs (getD xs i (pos 0)) ≤ differenceMost
-
-pub record Fillable (pairs offers : ℕ) (xs : List ℤ) (places : ℕ) : Type 0 where
-  pub offers-most : offers ≤ offersMost
-  pub pairs-most : pairs ≤ pairsMost
-  pub held : offers * pairs ≤ length xs
-  pub ranged : Ranged (offers * pairs) xs
-  pub room : 2 ^ pairs * offers ≤ places
-
-abbrev pub twiceOf : ℕ → ℕ → List ℤ → ℕ → Float
-twiceOf pairs j xs i = ofInt binary64 (getD xs (i * pairs + j) (pos 0) +ℤ getD xs (i * pairs + j) (pos 0))
-
-abbrev pub begun : {A : Type 0} → ℕ → List A → List A → List A
-begun n xs buf = take n xs ++ drop n buf
-
-unfoldable pub lowered : ℕ → List Float → ℕ → ℕ → List Float → List Float
-lowered zero off from at buf = buf
-lowered (suc n) off from at buf = set (lowered n off from at buf) (at + n) (sub binary64 (getD buf (from + n) nan) (getD off n nan))

@@ -1,8 +1,7 @@
-// A trial of offers in shops: its record, its checks, its table.
+// A trial of offers in shops: its record, its checks, the size of its table.
 // The definitions are in specs/, their laws in proofs/.
 mod checks; // the conditions of refusals
 mod designs; // how a trial was laid out: all that goes by its cases
-mod entries; // the table, by doubling
 
 // Conditions that a file's values are judged by too.
 pub use checks::bad_difference;
@@ -14,9 +13,8 @@ pub use designs::units;
 use limits::FIGURES_MOST;
 use limits::OFFERS_MOST;
 ghost use mathlib.Core.Path.{_≡_};
-ghost use lib.ListN.{length};
 ghost use Rattle.trial.specs.Refusals.{trialRefusal};
-ghost use Rattle.trial.specs.Lent.{sizeOf, tableCallRefusal, tableBuffer};
+ghost use Rattle.trial.specs.Lent.{sizeOf};
 
 // The level a/b, as written.
 pub struct Level {
@@ -97,24 +95,4 @@ pub fn size(t: Trial) -> TableSize
         rows: designs::rows(design),
         columns: shape.offers,
     }
-}
-
-// The table of a trial into the first places of a lent buffer, row after row. The result is 0, or the number of the refusal, and then the buffer is unchanged.
-pub fn table(t: Trial, out: &mut [f64]) -> u32
-    ensures { λ r. ⌜ r ≡ tableCallRefusal t (length (now (out .entry))) ⌝ }
-    ensures { λ r. ⌜ now (out .exit) ≡ tableBuffer t (now (out .entry)) ⌝ }
-{
-    let s = size(t);
-    if s.refusal != 0 {
-        return s.refusal;
-    }
-    let total = s.rows * s.columns;
-    if out.len() < total {
-        return 12;
-    }
-    let shape = t.shape;
-    let design = shape.design;
-    let figures = t.figures;
-    entries::fill(&figures, s.columns, designs::units(design), out);
-    0
 }

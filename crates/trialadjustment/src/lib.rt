@@ -26,7 +26,7 @@ pub fn trial_figures(t: Trial, table: &mut [f64], work: &mut [f64]) -> Adjusted
     if work.len() < s.rows {
         return adjustment::refused(12);
     }
-    trial::table(t, table);
+    trialtable::table(t, table);
     adjustment::adjusted_figures(&table[..total], work, s.rows, s.columns, t.shape.k, 0)
 }
 

@@ -39,8 +39,7 @@ use Rattle.trial.specs.Lent.{sizeOf, tableCallChecks, tableBuffer}
 use Rattle.trial.specs.declared.Trial.{Trial}
 use Rattle.trial.specs.declared.TableSize.{TableSize}
 use Rattle.trial.proofs.Accepted.{Accepted}
-use Rattle.trial.proofs.Tables.{trialRows-sound, rowTotal-some}
-use Rattle.trial.proofs.Places.{tableOf-length}
+use Rattle.trial.proofs.Tables.{trialRows-sound, rowTotal-some, tableOf-length}
 use Rattle.trial.proofs.Calls.{turned-away, passed-on, known, total-most, Sized, sized}
 use Rattle.trialrun.specs.TrialRuns.{trialRun, runCallChecks, trialAnswer, runTable, runWork}
 

@@ -25,7 +25,7 @@ pub fn full_run(t: Trial, table: &mut [f64], work: &mut [f64]) -> FullRun
     if work.len() < s.rows {
         return runs::refused(12);
     }
-    trial::table(t, table);
+    trialtable::table(t, table);
     stepdown::full_run(
         &table[..total],
         work,

@@ -16,7 +16,7 @@ fn write(t: Trial, file: &mut [u8]) {
 
 fn table(t: Trial, cells: &mut [f64]) {
     tables::load(cells);
-    let r = trial::table(t, cells);
+    let r = trialtable::table(t, cells);
     pen::end(pen::values(pen::start(b"table", 16, r as usize), cells));
 }
 

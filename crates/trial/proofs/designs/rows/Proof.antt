@@ -1,7 +1,7 @@
 -- `trial::designs::rows` meets its contract.
 use native.Mathlib.Omega.{arith}
 use borrow.Author.Needs.{needs}
-use Rattle.trial.proofs.Places.{rows-shift}
+use Rattle.trial.proofs.LaidOut.{rows-shift}
 use Rattle.trial.proofs.designs.rows.Statement.{statement}
 use Rattle.trial.proofs.designs.rows.Tie as tie
 

@@ -8,8 +8,8 @@ ghost use lib.IntN.{natAbs, _+ℤ_};
 ghost use lib.Ieee.{nan, binary64, ofInt};
 ghost use Rattle.refusals.specs.Buffers.{written};
 ghost use Rattle.limits.specs.Limits.{offersMost, pairsMost};
 ghost use Rattle.trial.specs.Designs.{signedSum};
-ghost use Rattle.trial.specs.Internal.{sumsTable, Fillable, twiceOf, begun, lowered};
+ghost use Rattle.trialtable.specs.Internal.{sumsTable, Fillable, twiceOf, begun, lowered};
 
 // A difference is added in a function of its own, whose contract gives the sum and how large it can be.
 fn plus(sum: i64, d: i32) -> i64

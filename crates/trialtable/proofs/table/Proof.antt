@@ -1,15 +1,16 @@
--- `trial::table` meets its contract: each answer is the first condition of the call's list that holds, and the buffer is what goes with it.
+-- `trialtable::table` meets its contract: each answer is the first condition of the call's list that holds, and the buffer is what goes with it.
 use Prim.Native.Nat.{_*_}
 use mathlib.Core.Path.{_≡_, ap₂}
 use native.Mathlib.Omega.{arith}
 use lib.ListN.{length}
 use borrow.Author.Needs.{needs}
 use Rattle.limits.specs.Limits.{figuresMost}
 use Rattle.trial.specs.Exchange.{rowTotal}
 use Rattle.trial.proofs.Accepted.{Accepted}
-use Rattle.trial.proofs.Calls.{known, total-most, fill-allowed, fill-done, call-refused, call-short, call-done, Sized, sized}
-use Rattle.trial.proofs.table.Statement.{statement}
-use Rattle.trial.proofs.table.Tie as tie
+use Rattle.trial.proofs.Calls.{known, total-most, Sized, sized}
+use Rattle.trialtable.proofs.Calls.{fill-allowed, fill-done, call-refused, call-short, call-done}
+use Rattle.trialtable.proofs.table.Statement.{statement}
+use Rattle.trialtable.proofs.table.Tie as tie
 
 held : (c : tie.Start) → length (c .args .t .figures) ≡ figuresMost
 held c = search needs

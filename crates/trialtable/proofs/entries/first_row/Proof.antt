@@ -1,13 +1,13 @@
--- `trial::entries::first_row` meets its contract. The loop's invariant: the buffer holds the table's first i places, and from there on what it held.
+-- `trialtable::entries::first_row` meets its contract. The loop's invariant: the buffer holds the table's first i places, and from there on what it held.
 use mathlib.Core.Path.{_≡_, ap, _∙_}
 use Prim.Native.Nat.{ℕ, _≤_, _<_, _-_, _+_, _*_, _^_}
 use native.Mathlib.Omega.{arith}
 use lib.ListN.{length, length-set}
 use borrow.Author.Needs.{needs}
-use Rattle.trial.specs.Internal.{sumsTable, Fillable, begun}
-use Rattle.trial.proofs.Doubling.{first-room, first-more}
-use Rattle.trial.proofs.entries.first_row.Statement.{statement}
-use Rattle.trial.proofs.entries.first_row.Tie as tie
+use Rattle.trialtable.specs.Internal.{sumsTable, Fillable, begun}
+use Rattle.trialtable.proofs.Doubling.{first-room, first-more}
+use Rattle.trialtable.proofs.entries.first_row.Statement.{statement}
+use Rattle.trialtable.proofs.entries.first_row.Tie as tie
 
 abbrev Inv-loop : tie.InvT-loop
 Inv-loop figures offers pairs out₀ i₀ out i =

@@ -1,8 +1,8 @@
--- `trial::entries::whole` meets its contract.
+-- `trialtable::entries::whole` meets its contract.
 use borrow.Author.Needs.{needs}
-use Rattle.trial.proofs.Places.{float-fits}
-use Rattle.trial.proofs.entries.whole.Statement.{statement}
-use Rattle.trial.proofs.entries.whole.Tie as tie
+use Rattle.trialtable.proofs.Places.{float-fits}
+use Rattle.trialtable.proofs.entries.whole.Statement.{statement}
+use Rattle.trialtable.proofs.entries.whole.Tie as tie
 
 int-to-float-result : tie.Need-int-to-float-result
 int-to-float-result c = float-fits _ (c .before .fits .n) (c .before .pre)

@@ -1,4 +1,4 @@
--- `trial::entries::double` meets its contract. The loop's invariant: the buffer holds the table's first 2^j + h rows, and from there on what it held.
+-- `trialtable::entries::double` meets its contract. The loop's invariant: the buffer holds the table's first 2^j + h rows, and from there on what it held.
 use mathlib.Core.Path.{_≡_, refl, ap, _∙_}
 use Prim.Native.Nat.{ℕ, _≤_, _<_, _-_, _+_, _*_, _%_, _^_}
 use native.Mathlib.Nat.{one-mul}
@@ -8,10 +8,10 @@ use lib.Pow.{shl-exact}
 use lib.Ieee.{nan}
 use borrow.Author.Needs.{needs}
 use Rattle.limits.specs.Limits.{offersMost}
-use Rattle.trial.specs.Internal.{sumsTable, Fillable, twiceOf, begun}
-use Rattle.trial.proofs.Doubling.{row-small, row-places, row-doubles, rows-start, rows-end}
-use Rattle.trial.proofs.entries.double.Statement.{statement}
-use Rattle.trial.proofs.entries.double.Tie as tie
+use Rattle.trialtable.specs.Internal.{sumsTable, Fillable, twiceOf, begun}
+use Rattle.trialtable.proofs.Doubling.{row-small, row-places, row-doubles, rows-start, rows-end}
+use Rattle.trialtable.proofs.entries.double.Statement.{statement}
+use Rattle.trialtable.proofs.entries.double.Tie as tie
 
 abbrev Inv-loop : tie.InvT-loop
 Inv-loop figures offers pairs j out₀ off rows h₀ out h =

@@ -1,4 +1,4 @@
--- `trial::entries::plain` meets its contract. The loop's invariant: the sum so far, with that of the differences from pair j on, is the whole.
+-- `trialtable::entries::plain` meets its contract. The loop's invariant: the sum so far, with that of the differences from pair j on, is the whole.
 use mathlib.Core.Path.{_≡_, sym, ap, _∙_}
 use Prim.Native.Nat.{_≤_, _<_, _-_, _+_, _*_, _^_}
 use native.Mathlib.Omega.{arith}
@@ -10,10 +10,10 @@ use mir.Val.{toZ}
 use borrow.Author.Needs.{needs}
 use Rattle.order.proofs.Signed.{kept}
 use Rattle.limits.specs.Limits.{pairsMost}
 use Rattle.trial.specs.Designs.{signedSum}
-use Rattle.trial.proofs.Places.{sumFrom, sum-start, sum-turn, sum-end}
-use Rattle.trial.proofs.entries.plain.Statement.{statement}
-use Rattle.trial.proofs.entries.plain.Tie as tie
+use Rattle.trialtable.proofs.Places.{sumFrom, sum-start, sum-turn, sum-end}
+use Rattle.trialtable.proofs.entries.plain.Statement.{statement}
+use Rattle.trialtable.proofs.entries.plain.Tie as tie
 
 abbrev Inv-loop : tie.InvT-loop
 Inv-loop figures base pairs sum₀ j₀ sum j =

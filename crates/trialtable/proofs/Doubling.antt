@@ -26,11 +26,11 @@ use borrow.Author.Needs.{read-below}
 use Rattle.order.proofs.Lists.{part-rows}
 use Rattle.refusals.specs.Buffers.{written}
 use Rattle.limits.specs.Limits.{pairsMost, trialRowsMost}
 use Rattle.trial.specs.Designs.{exchanged, signedSum}
-use Rattle.trial.specs.Internal.{sumsTable, Fillable, twiceOf, begun, lowered}
 use Rattle.trial.proofs.Sums.{abs-add, signedSum-small}
-use Rattle.trial.proofs.Places.{sumsTable-length, sumsTable-place, begun-more, begun-all, begun-again}
-use Rattle.trial.proofs.Subtraction.{sub-rounds}
+use Rattle.trialtable.specs.Internal.{sumsTable, Fillable, twiceOf, begun, lowered}
+use Rattle.trialtable.proofs.Places.{sumsTable-length, sumsTable-place, begun-more, begun-all, begun-again}
+use Rattle.trialtable.proofs.Subtraction.{sub-rounds}
 
 -- ---- signed sums
 

@@ -1,22 +1,19 @@
 -- Laws by which the table's places are proved.
---   rows-shift                       M as a shift
 --   plus-..                          the sum of an i64 and an i32: it fits, is what it says, and is not much larger
 --   float-fits                       a whole number that is exact as an f64
 --   sumFrom, sum-..                  the sum of an offer's differences from pair j on, and what one more pair adds
---   tableOf-length                   a table has M * offers places
 --   sumsTable-length, -place         a table of signed sums: place g * offers + i is the entry of offer i in row g
 --   begun-..                         a buffer that holds a list's first places: one more of them, and all
-use Prim.Native.Nat.{ℕ, zero, suc, _+_, _-_, _*_, _%_, _^_, _≤_, _<_}
+use Prim.Native.Nat.{ℕ, zero, suc, _+_, _-_, _*_, _^_, _≤_, _<_}
 use native.Mathlib.Numerals.{add-one}
 use native.Mathlib.Omega.{arith}
-use native.Mathlib.Nat.{sub-zero, one-mul, zero-mul, suc-mul}
+use native.Mathlib.Nat.{sub-zero, zero-mul, suc-mul}
 use mathlib.Core.Path.{_≡_, refl, sym, ap, ap₂, _∙_, subst}
 use mathlib.Core.List.{List, [], _∷_, _++_, map}
-use lib.ListN.{length, getD, take, drop, set, length-append, length-map, List·getD-append}
+use lib.ListN.{length, getD, take, drop, set, length-map, List·getD-append}
 use lib.Seq.{drop-cons, drop-drop, take-length, length-take-le, drop-append-add, getD-append-add}
 use lib.Dec.{T, eqb, eqb→eq, eqb-refl, le→leb, lt→ltb}
 use lib.IntN.{ℤ, pos, negsuc, natAbs, _+ℤ_, +ℤ-assoc, +ℤ-idl, +ℤ-idr}
-use lib.Pow.{shl-exact}
 use lib.Signed.{mag}
 use lib.Ieee.{Float, nan, binary64, ofInt, inFloat}
 use mir.Syntax.{w32, w64}
@@ -28,20 +25,10 @@ use Rattle.order.proofs.Booleans.{and-left, and-right}
 use Rattle.order.proofs.Signed.{abs-mag, abs-fits, wide-is, kept}
 use Rattle.order.proofs.Lists.{tabulate-length, tabulate-getD, all-tabulate, rowsOf-length, rowsOf-row, getD-map}
 use Rattle.refusals.specs.Buffers.{written}
-use Rattle.limits.specs.Limits.{pairsMost}
-use Rattle.trial.specs.Designs.{signedSum, unitsOf, rowCount}
-use Rattle.trial.specs.Exchange.{rowTotal, trialRows, tableOf}
-use Rattle.trial.specs.Internal.{sumsTable, begun}
-use Rattle.trial.specs.declared.Design.{Design}
-use Rattle.trial.specs.declared.Trial.{Trial}
+use Rattle.trial.specs.Designs.{signedSum}
 use Rattle.trial.proofs.Sums.{abs-add}
-use Rattle.trial.proofs.LaidOut.{rowCount-power}
-use Rattle.trial.proofs.Tables.{trialRows-length, even-rows}
-
--- ---- M
-
-pub rows-shift : (d : Design) (n : ℕ) → n ≡ unitsOf d → unitsOf d ≤ pairsMost → (1 * 2 ^ n) % 2 ^ 64 ≡ rowCount d
-rows-shift d n e h = shl-exact 1 n 64 (omega arith) (omega arith) ∙ one-mul (2 ^ n) ∙ ap (λ (m : ℕ). 2 ^ m) e ∙ sym (rowCount-power d)
+use Rattle.trial.proofs.Tables.{joined-length}
+use Rattle.trialtable.specs.Internal.{sumsTable, begun}
 
 -- ---- an i64 and an i32
 
@@ -100,13 +87,6 @@ module _ (ds : List ℤ) (base n : ℕ) where
 
 -- ---- joined rows, place by place
 
-joined-length : {A : Type 0} (n : ℕ) (rs : List (List A)) → T (all (λ r. eqb (length r) n) rs) → length (joined rs) ≡ length rs * n
-unfolding joined all
-joined-length n [] h = omega (arith, zero-mul n)
-joined-length n (r ∷ rs) h =
-    let l : length r ≡ n = eqb→eq (length r) n (and-left (eqb (length r) n) (all (λ r. eqb (length r) n) rs) h) in
-    length-append r (joined rs) ∙ omega (arith, l, joined-length n rs (and-right (eqb (length r) n) (all (λ r. eqb (length r) n) rs) h), suc-mul (length rs) n)
-
 -- place g * n + i of joined rows of n members each is member i of row g
 joined-place : {A : Type 0} (n : ℕ) (rs : List (List A)) (g i : ℕ) (d : A) → T (all (λ r. eqb (length r) n) rs) → i < n → g < length rs → getD (joined rs) (g * n + i) d ≡ getD (getD rs g []) i d
 unfolding joined all
@@ -120,13 +100,8 @@ joined-place n (r ∷ rs) (suc g) i d h k j =
     let z : suc g * n + i ≡ length r + (g * n + i) = omega (arith, suc-mul g n) in
     ap (λ (p : ℕ). getD (r ++ joined rs) p d) z ∙ getD-append-add r (joined rs) (g * n + i) d ∙ joined-place n rs g i d (and-right (eqb (length r) n) (all (λ r. eqb (length r) n) rs) h) k (omega arith)
 
--- ---- the table, place by place
+-- ---- a table of signed sums, place by place
 
-pub tableOf-length : (t : Trial) → length (tableOf t) ≡ rowTotal t * t .shape .offers
-unfolding tableOf
-tableOf-length t = joined-length (t .shape .offers) (trialRows t) (even-rows t) ∙ ap (λ (m : ℕ). m * t .shape .offers) (trialRows-length t)
-
--- a table of signed sums
 module _ (pairs offers : ℕ) (xs : List ℤ) where
   sumsRow : ℕ → List Float
   unfolding rowsOf signedSum ofInt

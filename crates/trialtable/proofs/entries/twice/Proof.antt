@@ -1,4 +1,4 @@
--- `trial::entries::twice` meets its contract.
+-- `trialtable::entries::twice` meets its contract.
 use mathlib.Core.Path.{_≡_, ap, ap₂, _∙_}
 use native.Mathlib.Omega.{arith}
 use Prim.Native.Nat.{_≤_, _^_}
@@ -8,8 +8,8 @@ use mir.Syntax.{w64}
 use mir.Val.{toZ, ofZ}
 use mir.Facts.{toZ-ofZ}
 use Rattle.order.proofs.Signed.{abs-mag, wide-fits, wide-is, kept}
-use Rattle.trial.proofs.entries.twice.Statement.{statement}
-use Rattle.trial.proofs.entries.twice.Tie as tie
+use Rattle.trialtable.proofs.entries.twice.Statement.{statement}
+use Rattle.trialtable.proofs.entries.twice.Tie as tie
 
 cast-plus : tie.Need-cast-plus
 cast-plus c = wide-fits (c .args .d) (c .fits .d)

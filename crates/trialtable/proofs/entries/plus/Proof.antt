@@ -1,8 +1,8 @@
--- `trial::entries::plus` meets its contract.
+-- `trialtable::entries::plus` meets its contract.
 use Rattle.order.proofs.Signed.{wide-fits}
-use Rattle.trial.proofs.Places.{plus-fits, plus-is, plus-below}
-use Rattle.trial.proofs.entries.plus.Statement.{statement}
-use Rattle.trial.proofs.entries.plus.Tie as tie
+use Rattle.trialtable.proofs.Places.{plus-fits, plus-is, plus-below}
+use Rattle.trialtable.proofs.entries.plus.Statement.{statement}
+use Rattle.trialtable.proofs.entries.plus.Tie as tie
 
 cast-result : tie.Need-cast-result
 cast-result c = wide-fits (c .args .d) (c .fits .d)

@@ -1,4 +1,4 @@
--- `trial::entries::twices` meets its contract. The loop's invariant: the first i places hold what they should.
+-- `trialtable::entries::twices` meets its contract. The loop's invariant: the first i places hold what they should.
 use mathlib.Core.Path.{_≡_, refl, ap, _∙_}
 use Prim.Native.Nat.{ℕ, _≤_, _<_, _-_, _+_, _*_}
 use native.Mathlib.Omega.{arith}
@@ -10,10 +10,10 @@ use mir.Val.{SFits}
 use mir.Facts.{toZ-ofZ}
 use borrow.Author.Needs.{needs}
 use Rattle.limits.specs.Limits.{offersMost}
-use Rattle.trial.specs.Internal.{twiceOf}
-use Rattle.trial.proofs.Doubling.{offer-place, twice-more}
-use Rattle.trial.proofs.entries.twices.Statement.{statement}
-use Rattle.trial.proofs.entries.twices.Tie as tie
+use Rattle.trialtable.specs.Internal.{twiceOf}
+use Rattle.trialtable.proofs.Doubling.{offer-place, twice-more}
+use Rattle.trialtable.proofs.entries.twices.Statement.{statement}
+use Rattle.trialtable.proofs.entries.twices.Tie as tie
 
 abbrev Inv-loop : tie.InvT-loop
 Inv-loop figures offers pairs j off₀ i₀ off i =

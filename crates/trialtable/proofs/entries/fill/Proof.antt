@@ -1,13 +1,13 @@
--- `trial::entries::fill` meets its contract. The loop's invariant: the buffer holds the table's first 2^j rows, and from there on what it held.
+-- `trialtable::entries::fill` meets its contract. The loop's invariant: the buffer holds the table's first 2^j rows, and from there on what it held.
 use mathlib.Core.Path.{_≡_, refl, _∙_}
 use Prim.Native.Nat.{_≤_, _-_, _*_, _^_}
 use native.Mathlib.Omega.{arith}
 use lib.ListN.{length}
 use borrow.Author.Needs.{needs}
-use Rattle.trial.specs.Internal.{sumsTable, Fillable, begun}
-use Rattle.trial.proofs.Doubling.{pairs-held, pairs-start, pairs-more, pairs-end}
-use Rattle.trial.proofs.entries.fill.Statement.{statement}
-use Rattle.trial.proofs.entries.fill.Tie as tie
+use Rattle.trialtable.specs.Internal.{sumsTable, Fillable, begun}
+use Rattle.trialtable.proofs.Doubling.{pairs-held, pairs-start, pairs-more, pairs-end}
+use Rattle.trialtable.proofs.entries.fill.Statement.{statement}
+use Rattle.trialtable.proofs.entries.fill.Tie as tie
 
 abbrev Inv-loop : tie.InvT-loop
 Inv-loop figures offers pairs out₀ j₀ out j =

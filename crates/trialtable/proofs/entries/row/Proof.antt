@@ -1,13 +1,13 @@
--- `trial::entries::row` meets its contract. The loop's invariant: the buffer has the row's first i entries.
+-- `trialtable::entries::row` meets its contract. The loop's invariant: the buffer has the row's first i entries.
 use mathlib.Core.Path.{_≡_, refl, ap, _∙_}
 use Prim.Native.Nat.{ℕ, _≤_, _-_, _+_}
 use native.Mathlib.Omega.{arith}
 use lib.ListN.{length, length-set}
 use borrow.Author.Needs.{needs}
-use Rattle.trial.specs.Internal.{lowered}
-use Rattle.trial.proofs.Doubling.{lowered-turn}
-use Rattle.trial.proofs.entries.row.Statement.{statement}
-use Rattle.trial.proofs.entries.row.Tie as tie
+use Rattle.trialtable.specs.Internal.{lowered}
+use Rattle.trialtable.proofs.Doubling.{lowered-turn}
+use Rattle.trialtable.proofs.entries.row.Statement.{statement}
+use Rattle.trialtable.proofs.entries.row.Tie as tie
 
 abbrev Inv-loop : tie.InvT-loop
 Inv-loop off offers from at out₀ i₀ out i =

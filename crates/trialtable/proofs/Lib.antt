@@ -1,0 +1,5 @@
+pub mod Places
+pub mod Subtraction
+pub mod Doubling
+pub mod Filled
+pub mod Calls
