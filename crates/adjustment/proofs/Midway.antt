@@ -1,5 +1,5 @@
 -- The pass while it goes on, with the columns of the mask `passed` behind it: the first s of the order.
---   order-row, order-fits          the order is that of the observed row, and its columns are those of the table
+--   order-row, order-listed, order-fits     the order is that of the observed row, there are as many columns as are live, and they are those of the table
 --   order-part, few-live, any-k    what making it asks for: the mask fits the row, there are few enough columns, and the table is checked for every k
 --   Midway                         what holds before each column
 --   midway-start, midway-end       before the first column, and after the last

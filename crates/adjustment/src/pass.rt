@@ -25,8 +25,7 @@ fn unrejected(rows: usize, columns: usize) -> [usize; 32]
     figures
 }
 
-// The larger of `figure` and the count that a value v needs with the columns of `passed` passed. `bound` is the count by maxima: it is that count for k = 1,
-// and later no smaller once k columns are passed. Where it does not tell, the rows' masks are made for v.
+// The larger of `figure` and the count that v needs with `passed` passed: `bound`, the count by maxima, is it for k = 1, and no smaller once k are passed.
 fn raised(
     table: &[f64],
     marks: &mut [u32],
@@ -54,7 +53,7 @@ fn raised(
     counting::needed(&marks[..n], columns, k, live, passed, figure)
 }
 
-// The pass over the columns of `live`, of which there are k or more. A value no smaller than the last one for which a count was made needs no more.
+// The pass over the columns of `live`, of which there are k or more. A value no smaller than the last one with a count needs no count.
 fn down(
     table: &[f64],
     rows: usize,

@@ -61,7 +61,7 @@ slice-aggregate-maxima c =
     let o = c .before in
     let n = o .before .before in
     let p = n .before .before .before .pre in
-    sym (order-listed (p .0) (p .1) _ _ (n .size-of .ensures) (o .order .ensures .1))
+    sym (order-listed (p .0) (p .1) _ _ (n .size-of .ensures) (o .order .ensures))
 
 maxima-requires : tie.Need-maxima-requires Inv-loop μ-loop
 maxima-requires c κs =
@@ -69,7 +69,7 @@ maxima-requires c κs =
     let n = o .before .before in
     let p = n .before .before .before .pre in
     let f = few-live (p .0) _ (n .size-of .ensures) in
-    (any-k (p .0), p .0 .seen, omega (arith, slice-aggregate-maxima c, f), order-fits (p .0) (p .1) _ _ (n .size-of .ensures) (o .order .ensures .1))
+    (any-k (p .0), p .0 .seen, omega (arith, slice-aggregate-maxima c, f), order-fits (p .0) (p .1) _ _ (n .size-of .ensures) (o .order .ensures))
 
 float-from-bits-last : tie.Need-float-from-bits-last Inv-loop μ-loop
 unfolding nanBits
@@ -81,7 +81,7 @@ loop-holds c =
     let o = c .before .before in
     let n = o .before .before in
     let p = n .before .before .before .pre in
-    (search needs, few-live (p .0) _ (n .size-of .ensures), midway-start (p .0) (p .1) _ _ (n .size-of .ensures) (o .order .ensures .1) _ (n .before .unrejected .ensures))
+    (search needs, few-live (p .0) _ (n .size-of .ensures), midway-start (p .0) (p .1) _ _ (n .size-of .ensures) (o .order .ensures) _ (n .before .unrejected .ensures))
 
 mul-i : tie.Need-mul-i Inv-loop μ-loop
 mul-i c = omega (arith, c .before .loop .inv .1)
