@@ -1,52 +1,52 @@
--- The pass while it goes on, with the columns of the mask `passed` behind it.
---   Midway            what holds before each column
+-- The pass while it goes on, with the columns of the mask `passed` behind it: the first s of the order.
+--   order-row, order-listed, order-fits     the order is that of the observed row, there are as many columns as are live, and they are those of the table
+--   order-part, few-live, any-k    what making it asks for: the mask fits the row, there are few enough columns, and the table is checked for every k
+--   Midway                         what holds before each column
 --   midway-start, midway-end       before the first column, and after the last
 --   midway-counted, midway-tied    one column more, with a count made for it, and with none since its value is no smaller than the last one with a count
---   midway-counts, midway-part     what the count and the scan of the observed row ask for
---   place-fits, place-32, entry-fits, bit-fits     the column that was found is one of the table, its entry is there, and its bit fits the mask
---   one-fewer     with it passed fewer are left
+--   midway-raising                 what the count asks for
+--   column-fits, column-32, entry-fits, mask-room     the column is one of the table, its entry is there, and its bit fits the mask
 use Prim.Native.Nat.{ℕ, zero, suc, _+_, _-_, _*_, _/_, _^_, _≤_, _<_, max}
 use native.Mathlib.Omega.{arith}
 use mathlib.Core.Path.{_≡_, refl, sym, ap, ap₂, _∙_, subst}
-use mathlib.Core.Bool.{Bool, true, false}
+use mathlib.Core.Bool.{true, false}
 use mathlib.Core.List.{List, [], _∷_, _++_, map}
 use lib.ListN.{length, getD, take, drop, set, replicate, length-set, length-replicate, take-append-drop}
-use lib.Seq.{take-at, drop-at, take-set-lt, drop-set-lt, length-take-le}
-use lib.Dec.{T, eqb}
-use lib.Pow.{pow-pos}
+use lib.Seq.{take-at, drop-at, drop-drop, getD-take, getD-drop, take-set-lt, drop-set-lt, length-take-le}
+use lib.Dec.{T, ltb}
 use lib.Ieee.{Float, nan, inf, fin, lt}
-use borrow.Author.Tests.{eqb-true, ltb-false}
-use Rattle.order.specs.Order.{finite, atMost, smaller}
+use borrow.Author.Tests.{ltb-false}
+use Rattle.order.specs.Order.{finite, smaller}
+use Rattle.order.specs.Counting.{all}
 use Rattle.order.specs.Lists.{rowsOf, padded}
 use Rattle.order.proofs.Counts.{all-getD}
-use Rattle.order.proofs.Booleans.{T-false, never, true-T}
+use Rattle.order.proofs.Booleans.{never, true-T}
 use Rattle.order.proofs.Keys.{key, smaller-key}
 use Rattle.order.proofs.Lists.{part-rows, rowsOf-length, row-entry, padded-length}
 use Rattle.order.proofs.Rows.{Sound, soundRow, sound-length, sound-finite, rowsOf-sound}
-use Rattle.columns.specs.Columns.{Columns, size, _∖_, columnsOf, maskOf}
-use Rattle.columns.proofs.Sets.{has, has-length, _⊆_, none, more, ⊆-at, ⊆-refl, ⊆-length, length-∖, empty-in}
-use Rattle.columns.proofs.Masks.{columnsOf-length, columnsOf-minus, maskOf-columnsOf, mask-none, size-none, minus-fits}
-use Rattle.columns.proofs.Remaining.{remains, left-all}
-use Rattle.masks.specs.Marks.{marksOf}
+use Rattle.columns.specs.Columns.{Columns, size, _∖_, columnsOf}
+use Rattle.columns.proofs.Sets.{_⊆_, none, more, ⊆-at, ⊆-refl, size-length}
+use Rattle.columns.proofs.Masks.{columnsOf-length}
+use Rattle.columns.proofs.Remaining.{left-all}
+use Rattle.masks.specs.Internal.{CheckedTable}
 use Rattle.masks.proofs.Parts.{part-length, part-row}
-use Rattle.masks.proofs.Walks.{put-lt, put-columns}
 use Rattle.adjustment.specs.Passes.{topColumn, needed, kMaxFrom, kMaxPass}
-use Rattle.adjustment.specs.Internal.{Passable, Countable, neededIn}
-use Rattle.adjustment.proofs.TopColumn.{top-finite}
-use Rattle.adjustment.proofs.PassFigures.{here, next-inside, next-size}
+use Rattle.adjustment.specs.Internal.{Passable, Raising, orderFrom, rowsHit}
 use Rattle.adjustment.proofs.Needed.{needed-falls}
-use Rattle.adjustment.proofs.NeededMarks.{needed-marks}
+use Rattle.adjustment.proofs.PassOrder.{order-length, order-places, rows-hit, Passed, passed-none, rest-length, place-fits, value-finite, bit-fits, next-set, next-passed, next-rest, next-left}
 
-pub record Midway (t : List Float) (rows columns k observed live : ℕ) (figures : List ℕ) (passed figure : ℕ) (last : Float) : Type 0 where
+pub record Midway (t : List Float) (rows columns k observed live : ℕ) (order : List ℕ) (n : ℕ) (figures : List ℕ) (passed figure : ℕ) (last : Float) (s : ℕ) : Type 0 where
   pub ready : Passable t rows columns k observed live
   pub held : k ≤ size (columnsOf columns live)
-  pub fits : passed < 2 ^ columns
-  pub inside : columnsOf columns passed ⊆ columnsOf columns live
+  pub passing : Passed columns live passed
   pub room : length figures ≡ 32
   pub beyond : drop columns figures ≡ replicate (32 - columns) 0
   pub onward : kMaxFrom (size (columnsOf columns live ∖ columnsOf columns passed)) k (rowsOf rows columns t) (columnsOf columns live) (getD (rowsOf rows columns t) observed []) (columnsOf columns passed) figure (take columns figures)
       ≡ kMaxPass k (rowsOf rows columns t) (columnsOf columns live) observed
   pub settled : 0 < size (columnsOf columns live ∖ columnsOf columns passed) → (x : Float) → T (finite x) → smaller x last ≡ false → needed k (rowsOf rows columns t) (columnsOf columns live) (columnsOf columns passed) x ≤ figure
+  pub listed : length (take n order) ≡ n
+  pub left : size (columnsOf columns live ∖ columnsOf columns passed) ≡ n - s
+  pub ahead : drop s (take n order) ≡ orderFrom (n - s) (getD (rowsOf rows columns t) observed []) (columnsOf columns live ∖ columnsOf columns passed)
 
 -- ---- before the first column
 
@@ -62,6 +62,16 @@ all-below nan f = absurd f
 all-below (inf s) f = absurd f
 all-below (fin s m e) f = refl
 
+module _ {t : List Float} {rows columns k observed live : ℕ} (r : Passable t rows columns k observed live) where
+  pub order-part : live < 2 ^ length (take (observed * columns + columns - observed * columns) (drop (observed * columns) t))
+  order-part = subst (λ (c : ℕ). live < 2 ^ c) (sym (part-length t rows columns k observed (r .ready) (r .seen))) (r .live-fits)
+
+  pub few-live : (n : ℕ) → n ≡ size (columnsOf columns live) → n ≤ 32
+  few-live n e = omega (arith, size-length (columnsOf columns live), columnsOf-length columns live, r .ready .cols-most)
+
+  pub any-k : CheckedTable t rows columns 1
+  any-k = record { rows-most = r .ready .rows-most; cols-most = r .ready .cols-most; full = r .ready .full; finitely = r .ready .finitely; k-some = omega arith; k-most = omega arith }
+
 module _ {t : List Float} {rows columns k observed live : ℕ} (r : Passable t rows columns k observed live) (held : k ≤ size (columnsOf columns live)) where
   fresh : (figures : List ℕ) → figures ≡ padded 32 0 (replicate columns rows)
       → kMaxFrom (size (columnsOf columns live ∖ columnsOf columns 0)) k (rowsOf rows columns t) (columnsOf columns live) (getD (rowsOf rows columns t) observed []) (columnsOf columns 0) 0 (take columns figures)
@@ -73,17 +83,54 @@ module _ {t : List Float} {rows columns k observed live : ℕ} (r : Passable t r
       (ap (take columns) e ∙ take-at (replicate columns rows) (replicate (32 - length (replicate columns rows)) 0) columns (length-replicate columns rows)
       ∙ ap₂ (λ (n m : ℕ). replicate n m) (sym (columnsOf-length columns live)) (sym (rowsOf-length rows columns t)))
 
-  pub midway-start : (figures : List ℕ) → figures ≡ padded 32 0 (replicate columns rows) → Midway t rows columns k observed live figures 0 0 (inf false)
-  midway-start figures e = record {
-    ready = r;
-    held = held;
-    fits = pow-pos columns;
-    inside = subst (λ (K : Columns). K ⊆ columnsOf columns live) (sym (none-passed columns live)) (empty-in (columnsOf columns live));
-    room = ap length e ∙ padded-length 32 0 (replicate columns rows) (omega (arith, length-replicate columns rows, r .ready .cols-most));
-    beyond = ap (drop columns) e ∙ drop-at (replicate columns rows) (replicate (32 - length (replicate columns rows)) 0) columns (length-replicate columns rows) ∙ ap (λ (n : ℕ). replicate (32 - n) 0) (length-replicate columns rows);
-    onward = fresh figures e;
-    settled = λ left x f s. absurd (never (smaller x (inf false)) s (true-T (smaller x (inf false)) (all-below x f)));
-  }
+  row-at : T (soundRow columns (getD (rowsOf rows columns t) observed []))
+  row-at = all-getD (soundRow columns) (rowsOf rows columns t) observed [] (omega (arith, rowsOf-length rows columns t, r .seen)) (rowsOf-sound rows columns t (r .ready .full) (r .ready .finitely))
+
+  module _ (order : List ℕ) (n : ℕ) (counted : n ≡ size (columnsOf columns live))
+      (found : take (size (columnsOf (length (take (observed * columns + columns - observed * columns) (drop (observed * columns) t))) live)) order
+      ≡ orderFrom (size (columnsOf (length (take (observed * columns + columns - observed * columns) (drop (observed * columns) t))) live)) (take (observed * columns + columns - observed * columns) (drop (observed * columns) t))
+      (columnsOf (length (take (observed * columns + columns - observed * columns) (drop (observed * columns) t))) live)) where
+    pub order-row : take n order ≡ orderFrom n (getD (rowsOf rows columns t) observed []) (columnsOf columns live)
+    order-row =
+        ap (λ (m : ℕ). take m order) (counted ∙ ap (λ (c : ℕ). size (columnsOf c live)) (sym wide)) ∙ found
+        ∙ ap₂ (λ (c : ℕ) (row : List Float). orderFrom (size (columnsOf c live)) row (columnsOf c live)) wide (part-row t rows columns k observed (r .ready) (r .seen))
+        ∙ ap (λ (m : ℕ). orderFrom m (getD (rowsOf rows columns t) observed []) (columnsOf columns live)) (sym counted)
+      where
+        wide : length (take (observed * columns + columns - observed * columns) (drop (observed * columns) t)) ≡ columns
+        wide = part-length t rows columns k observed (r .ready) (r .seen)
+
+    pub order-fits : T (all (λ j. ltb j columns) (take n order))
+    order-fits = subst (λ (cs : List ℕ). T (all (λ j. ltb j columns) cs)) (sym order-row) (subst (λ (c : ℕ). T (all (λ j. ltb j c) (orderFrom n row (columnsOf columns live)))) wide
+        (order-places row (sound-finite columns row row-at) n (columnsOf columns live) (columnsOf-length columns live ∙ sym wide) (sym counted)))
+      where
+        row : List Float
+        row = getD (rowsOf rows columns t) observed []
+
+        wide : length (getD (rowsOf rows columns t) observed []) ≡ columns
+        wide = sound-length columns row row-at
+
+    pub order-listed : length (take n order) ≡ n
+    order-listed = ap length order-row ∙ order-length n (getD (rowsOf rows columns t) observed []) (columnsOf columns live)
+
+    pub midway-start : (figures : List ℕ) → figures ≡ padded 32 0 (replicate columns rows) → Midway t rows columns k observed live order n figures 0 0 (inf false) 0
+    midway-start figures e = record {
+      ready = r;
+      held = held;
+      passing = passed-none (r .live-fits);
+      room = ap length e ∙ padded-length 32 0 (replicate columns rows) (omega (arith, length-replicate columns rows, r .ready .cols-most));
+      beyond = ap (drop columns) e ∙ drop-at (replicate columns rows) (replicate (32 - length (replicate columns rows)) 0) columns (length-replicate columns rows) ∙ ap (λ (m : ℕ). replicate (32 - m) 0) (length-replicate columns rows);
+      onward = fresh figures e;
+      settled = λ left x f s. absurd (never (smaller x (inf false)) s (true-T (smaller x (inf false)) (all-below x f)));
+      listed = order-listed;
+      left = ap size whole ∙ sym counted ∙ none;
+      ahead = order-row ∙ ap₂ (λ (m : ℕ) (K : Columns). orderFrom m (getD (rowsOf rows columns t) observed []) K) none (sym whole);
+    }
+      where
+        none : n ≡ n - 0
+        none = omega arith
+
+        whole : columnsOf columns live ∖ columnsOf columns 0 ≡ columnsOf columns live
+        whole = ap (λ (K : Columns). columnsOf columns live ∖ K) (none-passed columns live) ∙ left-all (columnsOf columns live)
 
 -- ---- at a column
 
@@ -104,7 +151,7 @@ grown [] i = none
 grown (b ∷ R) zero = more (λ _. tt) (⊆-refl R)
 grown (b ∷ R) (suc i) = more (λ t. t) (grown R i)
 
-module _ {t : List Float} {rows columns k observed live : ℕ} {figures : List ℕ} {passed figure : ℕ} {last : Float} (m : Midway t rows columns k observed live figures passed figure last) where
+module _ {t : List Float} {rows columns k observed live : ℕ} {order : List ℕ} {n : ℕ} {figures : List ℕ} {passed figure : ℕ} {last : Float} {s : ℕ} (m : Midway t rows columns k observed live order n figures passed figure last s) where
   abbrev L : Columns
   L = columnsOf columns live
 
@@ -114,144 +161,120 @@ module _ {t : List Float} {rows columns k observed live : ℕ} {figures : List �
   abbrev row : List Float
   row = getD (rowsOf rows columns t) observed []
 
-  pub passed-fewer : passed ≤ live
-  passed-fewer = minus-fits columns live passed (m .ready .live-fits) (m .fits) (m .inside)
-
-  rest-is : columnsOf columns (live - passed) ≡ columnsOf columns live ∖ columnsOf columns passed
-  rest-is = columnsOf-minus columns live passed (m .ready .live-fits) (m .fits) (m .inside)
-
-  pub midway-counts : (ms : List ℕ) → length ms ≤ 4096 → Countable ms columns k live passed
-  midway-counts ms h = record {
-    cols-most = m .ready .ready .cols-most;
-    marks-most = h;
-    k-some = m .ready .ready .k-some;
-    k-most = m .ready .ready .k-most;
-    live-fits = m .ready .live-fits;
-    passed-fits = m .fits;
-    inside = ⊆-at (m .inside);
-  }
-
   sound : Sound columns (rowsOf rows columns t)
   sound = rowsOf-sound rows columns t (m .ready .ready .full) (m .ready .ready .finitely)
 
-  row-sound : T (soundRow (length (columnsOf columns live)) (getD (rowsOf rows columns t) observed []))
-  row-sound = subst (λ (n : ℕ). T (soundRow n row)) (sym (columnsOf-length columns live)) (all-getD (soundRow columns) (rowsOf rows columns t) observed [] (omega (arith, rowsOf-length rows columns t, m .ready .seen)) sound)
+  own : T (soundRow columns (getD (rowsOf rows columns t) observed []))
+  own = row-at (m .ready) (m .held)
 
-  -- all are passed exactly where none is left
-  none-left : passed ≡ live → size (columnsOf columns live ∖ columnsOf columns passed) ≡ 0
-  none-left e = ap size (sym rest-is ∙ ap (columnsOf columns) z) ∙ size-none columns
-    where
-      z : live - passed ≡ 0
-      z = omega arith
+  -- what is needed falls with what is passed and with a larger value
+  falls : (Q : Columns) (x y : Float) → columnsOf columns passed ⊆ Q → Q ⊆ columnsOf columns live → 0 < size (columnsOf columns live ∖ Q) → T (finite x) → T (finite y) → key x ≤ key y
+      → needed k (rowsOf rows columns t) (columnsOf columns live) Q y ≤ needed k (rowsOf rows columns t) (columnsOf columns live) (columnsOf columns passed) x
+  falls Q x y = needed-falls k (rowsOf rows columns t) L R Q x y (subst (λ (c : ℕ). Sound c (rowsOf rows columns t)) (sym (columnsOf-length columns live)) sound) (m .ready .ready .k-some) (m .held)
 
-  module _ (more : passed ≡ live → ⊥) where
-    midway-left : 0 < size (columnsOf columns live ∖ columnsOf columns passed)
-    midway-left = go (size (columnsOf columns live ∖ columnsOf columns passed)) refl
-      where
-        low : live - passed < 2 ^ columns
-        low = omega (arith, m .ready .live-fits)
+  module _ (h : s < n) where
+    some : 0 < size (columnsOf columns live ∖ columnsOf columns passed)
+    some = omega (arith, m .left)
 
-        go : (n : ℕ) → size (columnsOf columns live ∖ columnsOf columns passed) ≡ n → 0 < n
-        go zero e = absurd (more (omega (arith, passed-fewer, eqb-true (live - passed) 0 (ap (λ (x : ℕ). eqb x 0) (sym (maskOf-columnsOf columns (live - passed) low)) ∙ mask-none (columnsOf columns (live - passed)) ∙ ap (λ (x : ℕ). eqb x 0) (ap size rest-is ∙ e)))))
-        go (suc n) e = omega arith
+    ahead-more : drop s (take n order) ≡ topColumn (columnsOf columns live ∖ columnsOf columns passed) (getD (rowsOf rows columns t) observed [])
+        ∷ orderFrom (n - (s + 1)) (getD (rowsOf rows columns t) observed []) (set (columnsOf columns live ∖ columnsOf columns passed) (topColumn (columnsOf columns live ∖ columnsOf columns passed) (getD (rowsOf rows columns t) observed [])) false)
+    unfolding orderFrom
+    ahead-more = let e : n - s ≡ suc (n - (s + 1)) = omega arith in m .ahead ∙ ap (λ (c : ℕ). orderFrom c row (L ∖ R)) e
 
-    pub midway-part : 0 < size (columnsOf (length (take (observed * columns + columns - observed * columns) (drop (observed * columns) t))) (live - passed))
-    midway-part = subst (λ (n : ℕ). 0 < size (columnsOf n (live - passed))) (sym (part-length t rows columns k observed (m .ready .ready) (m .ready .seen))) (subst (λ (K : Columns). 0 < size K) (sym rest-is) midway-left)
+    -- the next column of the order is the one with the largest value
+    top : getD order s 0 ≡ topColumn (columnsOf columns live ∖ columnsOf columns passed) (getD (rowsOf rows columns t) observed [])
+    top = let e : s ≡ s + 0 = omega arith in sym (getD-take n order s 0 h) ∙ ap (λ (c : ℕ). getD (take n order) c 0) e ∙ sym (getD-drop s (take n order) 0 0) ∙ ap (λ (l : List ℕ). getD l 0 0) ahead-more
 
-    -- the column that was found in the observed row, as a part of the table
-    module _ (i : ℕ) (found : i ≡ topColumn (columnsOf (length (take (observed * columns + columns - observed * columns) (drop (observed * columns) t))) (live - passed)) (take (observed * columns + columns - observed * columns) (drop (observed * columns) t))) where
-      top : i ≡ topColumn (columnsOf columns live ∖ columnsOf columns passed) (getD (rowsOf rows columns t) observed [])
-      top = found ∙ ap₂ (λ (n : ℕ) (r : List Float). topColumn (columnsOf n (live - passed)) r) (part-length t rows columns k observed (m .ready .ready) (m .ready .seen)) (part-row t rows columns k observed (m .ready .ready) (m .ready .seen)) ∙ ap (λ (K : Columns). topColumn K row) rest-is
+    pub column-fits : getD order s 0 < columns
+    column-fits = place-fits (m .passing) row own some (getD order s 0) top
 
-      left-here : T (has (columnsOf columns live ∖ columnsOf columns passed) i)
-      left-here = subst (λ (l : ℕ). T (has (L ∖ R) l)) (sym top) (here L row row-sound R (m .inside) midway-left)
+    pub column-32 : getD order s 0 < 32
+    column-32 = omega (arith, column-fits, m .ready .ready .cols-most)
 
-      even : length (columnsOf columns live) ≡ length (columnsOf columns passed)
-      even = sym (⊆-length (m .inside))
+    pub entry-fits : observed * columns + getD order s 0 < length t
+    entry-fits = omega (arith, column-fits, part-rows rows columns observed (m .ready .seen), m .ready .ready .full)
 
-      pub place-fits : i < columns
-      place-fits = omega (arith, has-length (L ∖ R) i left-here, length-∖ L R even, columnsOf-length columns live)
+    module _ (v : Float) (shown : v ≡ getD t (observed * columns + getD order s 0) nan) where
+      value : v ≡ getD (getD (rowsOf rows columns t) observed []) (getD order s 0) nan
+      value = shown ∙ sym (row-entry t rows columns observed (getD order s 0) nan (m .ready .seen) column-fits)
 
-      free : has (columnsOf columns passed) i ≡ false
-      free = T-false (has R i) (remains L R even i .0 left-here .1)
+      v-finite : T (finite v)
+      v-finite = subst (λ (x : Float). T (finite x)) (sym value) (value-finite (m .passing) row own some (getD order s 0) top)
 
-      value-finite : T (finite (getD (getD (rowsOf rows columns t) observed []) i nan))
-      value-finite = all-getD finite row i nan (omega (arith, place-fits, sound-length (length L) row row-sound, columnsOf-length columns live)) (sound-finite (length L) row row-sound)
+      pub midway-raising : (counts : List ℕ) → ((s : ℕ) → s < length (take n order) → getD counts s 0 ≡ rowsHit (rowsOf rows columns t) (getD (getD (rowsOf rows columns t) observed []) (getD (take n order) s 0) nan) (drop s (take n order)))
+          → Raising t rows columns k live passed v (getD counts s 0)
+      midway-raising counts tallied = record {
+        ready = m .ready .ready;
+        live-fits = m .ready .live-fits;
+        passed-fits = m .passing .fits;
+        inside = ⊆-at (m .passing .inside);
+        held = m .held;
+        left = some;
+        value = v-finite;
+        bounded = tallied s (omega (arith, m .listed))
+            ∙ ap₂ (λ (x : Float) (cs : List ℕ). rowsHit (rowsOf rows columns t) x cs) (ap (λ (j : ℕ). getD row j nan) (getD-take n order s 0 h) ∙ sym value) (m .ahead)
+            ∙ rows-hit row (sound-finite columns row own) (rowsOf rows columns t) v (n - s) (L ∖ R) (subst (λ (c : ℕ). Sound c (rowsOf rows columns t)) (sym wide) sound) v-finite (rest-length (m .passing) ∙ sym wide) (m .left) (omega arith);
+      }
+        where
+          wide : length (getD (rowsOf rows columns t) observed []) ≡ columns
+          wide = sound-length columns row own
 
-      pub place-32 : i < 32
-      place-32 = omega (arith, place-fits, m .ready .ready .cols-most)
+      module _ (p : ℕ) (bit : p ≡ 2 ^ getD order s 0) where
+        pub mask-room : passed + p < 2 ^ columns
+        mask-room = bit-fits (m .passing) row own some (getD order s 0) top p bit
 
-      pub entry-fits : observed * columns + i < length t
-      entry-fits = omega (arith, place-fits, part-rows rows columns observed (m .ready .seen), m .ready .ready .full)
+        abbrev R′ : Columns
+        R′ = columnsOf columns (passed + p)
 
-      pub bit-fits : (p : ℕ) → p ≡ 2 ^ i → passed + p < 2 ^ columns
-      bit-fits p e = subst (λ (x : ℕ). passed + x < 2 ^ columns) (sym e) (put-lt columns passed i (m .fits) place-fits free)
+        grows : columnsOf columns (passed + p) ≡ set (columnsOf columns passed) (getD order s 0) true
+        grows = next-set (m .passing) row own some (getD order s 0) top p bit
 
-      module _ (v : Float) (p : ℕ) (shown : v ≡ getD t (observed * columns + i) nan) (bit : p ≡ 2 ^ i) where
-        value : v ≡ getD (getD (rowsOf rows columns t) observed []) i nan
-        value = shown ∙ sym (row-entry t rows columns observed i nan (m .ready .seen) place-fits)
+        next : Passed columns live (passed + p)
+        next = next-passed (m .passing) row own some (getD order s 0) top p bit
 
-        v-finite : T (finite v)
-        v-finite = subst (λ (x : Float). T (finite x)) (sym value) value-finite
-
-        next-set : columnsOf columns (passed + p) ≡ set (columnsOf columns passed) i true
-        next-set = ap (λ (x : ℕ). columnsOf columns (passed + x)) bit ∙ put-columns columns passed i (m .fits) place-fits free
-
-        next-in : columnsOf columns (passed + p) ⊆ columnsOf columns live
-        next-in = subst (λ (K : Columns). K ⊆ L) (sym next-set) (subst (λ (l : ℕ). set R l true ⊆ L) (sym top) (next-inside L row row-sound R (m .inside) midway-left))
+        fewer : size (columnsOf columns live ∖ columnsOf columns (passed + p)) ≡ size (columnsOf columns live ∖ columnsOf columns passed) - 1
+        fewer = next-left (m .passing) row own some (getD order s 0) top p bit
 
         onward′ : (figure′ : ℕ) → figure′ ≡ max figure (needed k (rowsOf rows columns t) (columnsOf columns live) (columnsOf columns passed) v)
-            → kMaxFrom (size (columnsOf columns live ∖ columnsOf columns (passed + p))) k (rowsOf rows columns t) (columnsOf columns live) (getD (rowsOf rows columns t) observed []) (columnsOf columns (passed + p)) figure′ (take columns (set figures i figure′))
+            → kMaxFrom (size (columnsOf columns live ∖ columnsOf columns (passed + p))) k (rowsOf rows columns t) (columnsOf columns live) (getD (rowsOf rows columns t) observed []) (columnsOf columns (passed + p)) figure′ (take columns (set figures (getD order s 0) figure′))
             ≡ kMaxPass k (rowsOf rows columns t) (columnsOf columns live) observed
         onward′ figure′ e =
-            ap₂ (λ (Q : Columns) (fs : List ℕ). kMaxFrom (size (L ∖ Q)) k (rowsOf rows columns t) L row Q figure′ fs) next-set (take-set-lt columns figures i figure′ place-fits)
-            ∙ ap (λ (n : ℕ). kMaxFrom n k (rowsOf rows columns t) L row (set R i true) figure′ (set (take columns figures) i figure′)) fewer
-            ∙ one-column (size (L ∖ R) - 1) k (rowsOf rows columns t) L row R figure (take columns figures) i figure′ top (e ∙ ap (λ (x : Float). max figure (needed k (rowsOf rows columns t) L R x)) value)
-            ∙ ap (λ (n : ℕ). kMaxFrom n k (rowsOf rows columns t) L row R figure (take columns figures)) (sym some) ∙ m .onward
-          where
-            some : size (L ∖ R) ≡ suc (size (L ∖ R) - 1)
-            some = omega (arith, midway-left)
+            let one : suc (size (L ∖ R) - 1) ≡ size (L ∖ R) = omega (arith, some) in
+            ap (λ (c : ℕ). kMaxFrom c k (rowsOf rows columns t) L row R′ figure′ (take columns (set figures (getD order s 0) figure′))) fewer
+            ∙ ap₂ (λ (Q : Columns) (fs : List ℕ). kMaxFrom (size (L ∖ R) - 1) k (rowsOf rows columns t) L row Q figure′ fs) grows (take-set-lt columns figures (getD order s 0) figure′ column-fits)
+            ∙ one-column (size (L ∖ R) - 1) k (rowsOf rows columns t) L row R figure (take columns figures) (getD order s 0) figure′ top (e ∙ ap (λ (x : Float). max figure (needed k (rowsOf rows columns t) L R x)) value)
+            ∙ ap (λ (c : ℕ). kMaxFrom c k (rowsOf rows columns t) L row R figure (take columns figures)) one ∙ m .onward
 
-            fewer : size (L ∖ set R i true) ≡ size (L ∖ R) - 1
-            fewer = ap (λ (l : ℕ). size (L ∖ set R l true)) top ∙ next-size L row row-sound R (m .inside) midway-left (size (L ∖ R) - 1) some
-
-        -- what is needed falls with what is passed and with a larger value
-        falls : (Q : Columns) (x y : Float) → columnsOf columns passed ⊆ Q → Q ⊆ columnsOf columns live → 0 < size (columnsOf columns live ∖ Q) → T (finite x) → T (finite y) → key x ≤ key y
-            → needed k (rowsOf rows columns t) (columnsOf columns live) Q y ≤ needed k (rowsOf rows columns t) (columnsOf columns live) (columnsOf columns passed) x
-        falls Q x y = needed-falls k (rowsOf rows columns t) L R Q x y (subst (λ (n : ℕ). Sound n (rowsOf rows columns t)) (sym (columnsOf-length columns live)) sound) (m .ready .ready .k-some) (m .held)
+        ahead′ : drop (s + 1) (take n order) ≡ orderFrom (n - (s + 1)) (getD (rowsOf rows columns t) observed []) (columnsOf columns live ∖ columnsOf columns (passed + p))
+        ahead′ = sym (drop-drop 1 s (take n order)) ∙ ap (drop 1) ahead-more ∙ ap (λ (K : Columns). orderFrom (n - (s + 1)) row K) (sym (next-rest (m .passing) row own some (getD order s 0) top p bit))
 
         midway-turn : (figure′ : ℕ) (last′ : Float) → figure′ ≡ max figure (needed k (rowsOf rows columns t) (columnsOf columns live) (columnsOf columns passed) v)
             → ((x : Float) → T (finite x) → smaller x last′ ≡ false → needed k (rowsOf rows columns t) (columnsOf columns live) (columnsOf columns passed) x ≤ figure′)
-            → Midway t rows columns k observed live (set figures i figure′) (passed + p) figure′ last′
+            → Midway t rows columns k observed live order n (set figures (getD order s 0) figure′) (passed + p) figure′ last′ (s + 1)
         midway-turn figure′ last′ e after = record {
           ready = m .ready;
           held = m .held;
-          fits = bit-fits p bit;
-          inside = next-in;
-          room = length-set figures i figure′ ∙ m .room;
-          beyond = drop-set-lt columns figures i figure′ place-fits ∙ m .beyond;
+          passing = next;
+          room = length-set figures (getD order s 0) figure′ ∙ m .room;
+          beyond = drop-set-lt columns figures (getD order s 0) figure′ column-fits ∙ m .beyond;
           onward = onward′ figure′ e;
-          settled = λ left x f s. omega (arith, after x f s, falls (columnsOf columns (passed + p)) x x (subst (λ (K : Columns). R ⊆ K) (sym next-set) (grown R i)) next-in left f f (omega arith));
+          settled = λ left x f u. omega (arith, after x f u, falls R′ x x (subst (λ (K : Columns). R ⊆ K) (sym grows) (grown R (getD order s 0))) (next .inside) left f f (omega arith));
+          listed = m .listed;
+          left = omega (arith, fewer, m .left);
+          ahead = ahead′;
         }
 
         module _ (figure′ : ℕ) (last′ : Float) where
-          pub midway-counted : (r : ℕ) → r ≡ max figure (neededIn k (marksOf k (λ x. atMost v x) (rowsOf rows columns t)) (columnsOf columns live) (columnsOf columns passed)) → figure′ ≡ r → last′ ≡ v
-              → Midway t rows columns k observed live (set figures i figure′) (passed + p) figure′ last′
-          midway-counted r counted e q = midway-turn figure′ last′ told
-              (λ x f s. omega (arith, told, falls R v x (⊆-refl R) (m .inside) midway-left v-finite f (ltb-false (key x) (key v) (sym (smaller-key x v f v-finite) ∙ sym (ap (λ (l : Float). smaller x l) q) ∙ s))))
-            where
-              told : figure′ ≡ max figure (needed k (rowsOf rows columns t) L R v)
-              told = e ∙ counted ∙ ap (max figure) (needed-marks columns k (rowsOf rows columns t) v sound (m .ready .ready .cols-most) (m .ready .ready .k-some) v-finite L R (columnsOf-length columns live) (m .held) (m .inside) midway-left)
+          pub midway-counted : (r : ℕ) → r ≡ max figure (needed k (rowsOf rows columns t) (columnsOf columns live) (columnsOf columns passed) v) → figure′ ≡ r → last′ ≡ v
+              → Midway t rows columns k observed live order n (set figures (getD order s 0) figure′) (passed + p) figure′ last′ (s + 1)
+          midway-counted r counted e q = midway-turn figure′ last′ (e ∙ counted)
+              (λ x f u. omega (arith, counted, falls R v x (⊆-refl R) (m .passing .inside) some v-finite f (ltb-false (key x) (key v) (sym (smaller-key x v f v-finite) ∙ sym (ap (λ (l : Float). smaller x l) q) ∙ u))))
 
-          pub midway-tied : smaller v last ≡ false → figure′ ≡ figure → last′ ≡ last → Midway t rows columns k observed live (set figures i figure′) (passed + p) figure′ last′
-          midway-tied s e q = midway-turn figure′ last′ (omega (arith, m .settled midway-left v v-finite s)) (λ x f u. omega (arith, m .settled midway-left x f (sym (ap (λ (l : Float). smaller x l) q) ∙ u)))
+          pub midway-tied : smaller v last ≡ false → figure′ ≡ figure → last′ ≡ last → Midway t rows columns k observed live order n (set figures (getD order s 0) figure′) (passed + p) figure′ last′ (s + 1)
+          midway-tied u e q = midway-turn figure′ last′ (omega (arith, m .settled some v v-finite u)) (λ x f w. omega (arith, m .settled some x f (sym (ap (λ (l : Float). smaller x l) q) ∙ w)))
 
-  pub midway-end : passed ≡ live → figures ≡ padded 32 0 (kMaxPass k (rowsOf rows columns t) (columnsOf columns live) observed)
-  midway-end e = sym (take-append-drop columns figures) ∙ ap₂ (λ (x y : List ℕ). x ++ y) full (m .beyond ∙ ap (λ (n : ℕ). replicate (32 - n) 0) (sym (ap length (sym full) ∙ length-take-le columns figures (omega (arith, m .room, m .ready .ready .cols-most)))))
+  pub midway-end : n ≤ s → figures ≡ padded 32 0 (kMaxPass k (rowsOf rows columns t) (columnsOf columns live) observed)
+  midway-end e = sym (take-append-drop columns figures) ∙ ap₂ (λ (x y : List ℕ). x ++ y) full (m .beyond ∙ ap (λ (c : ℕ). replicate (32 - c) 0) (sym (ap length (sym full) ∙ length-take-le columns figures (omega (arith, m .room, m .ready .ready .cols-most)))))
     where
       full : take columns figures ≡ kMaxPass k (rowsOf rows columns t) (columnsOf columns live) observed
-      full = sym (no-column (size (L ∖ R)) k (rowsOf rows columns t) L row R figure (take columns figures) (none-left e)) ∙ m .onward
-
--- a column more leaves fewer
-pub one-fewer : {live passed p : ℕ} (i : ℕ) → passed ≤ live → (passed ≡ live → ⊥) → p ≡ 2 ^ i → live - (passed + p) < live - passed
-one-fewer i h f e = omega (arith, f, pow-pos i)
+      full = sym (no-column (size (L ∖ R)) k (rowsOf rows columns t) L row R figure (take columns figures) (omega (arith, m .left))) ∙ m .onward

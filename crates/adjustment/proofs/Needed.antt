@@ -2,6 +2,7 @@
 --   needed-law     that critical value reaches v exactly where e is below `needed`
 --   needed-most    `needed` is at most M
 --   needed-falls   with more rejected, a value no smaller needs no more
+--   needed-bound   with k or more rejected it is at most the count by maxima: a row that counts has a column that is left
 --   needed-one     for k = 1 it is the count over what is left: nothing is put back
 use Prim.Native.Nat.{ℕ, zero, suc, _+_, _-_, _≤_, _<_, max}
 use native.Mathlib.Omega.{arith}
@@ -9,27 +10,27 @@ use native.Mathlib.Nat.{le-max-left, le-max-right, max-le, max-zero}
 use native.Mathlib.Decide.{decLe}
 use mathlib.Core.Path.{_≡_, refl, sym, ap, _∙_}
 use mathlib.Core.Logic.{_↔_}
-use mathlib.Core.Bool.{Bool, true, false, cond}
+use mathlib.Core.Bool.{Bool, true, false, cond, _&&_, _||_}
 use mathlib.Core.List.{List, [], _∷_, map}
 use lib.ListN.{length, length-map}
-use lib.Dec.{ltb, T, ltb→lt, lt→ltb}
+use lib.Dec.{ltb, leb, T, ltb→lt, lt→ltb, leb→le, le→leb}
 use lib.Ieee.{Float}
 use borrow.Author.Tests.{lt-ltb, le-ltb}
 use Rattle.order.specs.Order.{finite}
-use Rattle.order.specs.Counting.{bit, count}
-use Rattle.order.proofs.Booleans.{same-test, not-within}
+use Rattle.order.specs.Counting.{bit, count, all}
+use Rattle.order.proofs.Booleans.{same-test, not-within, and-left, and-right}
 use Rattle.order.proofs.Keys.{key, key-some}
-use Rattle.order.proofs.Counts.{count-same-all, count-map}
+use Rattle.order.proofs.Counts.{count-same-all, count-le-all, count-map}
 use Rattle.order.proofs.Rows.{Sound}
 use Rattle.select.specs.Rank.{kthLargest}
 use Rattle.select.proofs.Ranks.{kthLargest-law}
-use Rattle.columns.specs.Columns.{Columns, size, _∪_, _∖_, choose}
-use Rattle.columns.proofs.Sets.{_⊆_, ⊆-length, length-∖, empty-size}
-use Rattle.columns.proofs.PutBack.{choose-some}
+use Rattle.columns.specs.Columns.{Columns, size, _∪_, _∩_, _∖_, choose, reached}
+use Rattle.columns.proofs.Sets.{_⊆_, ⊆-length, length-∪, length-∖, empty-size}
+use Rattle.columns.proofs.PutBack.{choose-some, choose-sound, size-put}
 use Rattle.columns.proofs.Remaining.{left-none, nothing-new}
 use Rattle.method.specs.Method.{criticalValue, putBack, reaching}
 use Rattle.method.proofs.Critical.{sets-finite}
-use Rattle.method.proofs.Reaching.{reach-law, reaching-most}
+use Rattle.method.proofs.Reaching.{reach-law, reaching-columns, reaching-most}
 use Rattle.runs.proofs.Loosening.{criticalAt, criticalAt-few, criticalAt-many, criticalAt-falls}
 use Rattle.adjustment.specs.Passes.{largestOf, needed}
 
@@ -108,6 +109,47 @@ needed-falls k X live R R′ v x sound pos held sub inside left f g le = go (nee
           criticalAt-falls k e e X live sound pos held (omega arith) rare R R′ sub inside left,
         ) in
         omega (arith, needed-law (length live) k e X v sound pos rare f live R .0 low)
+
+-- a set with some columns more
+join-meets : (A I B : Columns) → length A ≡ length I → size ((A ∪ I) ∩ B) ≤ size (A ∩ B) + size I
+unfolding _∪_ _∩_ size count
+join-meets [] I B h = omega arith
+join-meets (a ∷ A) [] B h = absurd (omega arith)
+join-meets (a ∷ A) (i ∷ I) [] h = omega arith
+join-meets (a ∷ A) (i ∷ I) (b ∷ B) h = omega (arith, join-meets A I B (omega arith), one a i b)
+  where
+    one : (a i b : Bool) → bit ((a || i) && b) ≤ bit (a && b) + bit i
+    one true i b = omega arith
+    one false true true = omega arith
+    one false true false = omega arith
+    one false false b = omega arith
+
+-- no count is larger where none is
+largest-under : {A : Type 0} (f : A → ℕ) (m : ℕ) (l : List A) → T (all (λ x. leb (f x) m) l) → largestOf (map f l) ≤ m
+unfolding largestOf all
+largest-under f m [] t = omega arith
+largest-under f m (x ∷ l) t = max-le (leb→le (f x) m (and-left (leb (f x) m) (all (λ x. leb (f x) m) l) t)) (largest-under f m l (and-right (leb (f x) m) (all (λ x. leb (f x) m) l) t))
+
+module _ (k : ℕ) (X : List (List Float)) (live R : Columns) (v : Float) (sound : Sound (length live) X) (pos : 0 < k) (inside : R ⊆ live) (left : 0 < size (live ∖ R)) (f : T (finite v)) where
+  even : length live ≡ length R
+  even = sym (⊆-length inside)
+
+  put-bound : (I : Columns) → I ⊆ R → size I ≡ k - 1 → reaching k X ((live ∖ R) ∪ I) v ≤ reaching 1 X (live ∖ R) v
+  put-bound I sub z = omega (
+    arith,
+    reaching-columns (length live) k X ((live ∖ R) ∪ I) v sound (length-∪ (live ∖ R) I same ∙ length-∖ live R even) pos (omega (arith, size-put live sub even)) f,
+    reaching-columns (length live) 1 X (live ∖ R) v sound (length-∖ live R even) (omega arith) left f,
+    count-le-all (λ row. leb k (size (((live ∖ R) ∪ I) ∩ reached v row))) (λ row. leb 1 (size ((live ∖ R) ∩ reached v row))) X
+        (λ row t. le→leb 1 (size ((live ∖ R) ∩ reached v row)) (omega (arith, join-meets (live ∖ R) I (reached v row) same, leb→le k (size (((live ∖ R) ∪ I) ∩ reached v row)) t))),
+  )
+    where
+      same : length (live ∖ R) ≡ length I
+      same = length-∖ live R even ∙ even ∙ sym (⊆-length sub)
+
+  pub needed-bound : k ≤ size R → needed k X live R v ≤ reaching 1 X (live ∖ R) v
+  unfolding needed
+  needed-bound many = rw (le-ltb (size R) k many) (largest-under (λ I. reaching k X ((live ∖ R) ∪ I) v) (reaching 1 X (live ∖ R) v) (choose (k - 1) R)
+      (choose-sound (k - 1) R (λ I. leb (reaching k X ((live ∖ R) ∪ I) v) (reaching 1 X (live ∖ R) v)) (λ I sub z. le→leb (reaching k X ((live ∖ R) ∪ I) v) (reaching 1 X (live ∖ R) v) (put-bound I sub z))))
 
 pub needed-one : (X : List (List Float)) (live R : Columns) (v : Float) → R ⊆ live → needed 1 X live R v ≡ reaching 1 X (live ∖ R) v
 unfolding needed largestOf choose

@@ -2,15 +2,13 @@
 --   walk-none, walk-skip      nothing left to choose from; a column that is not passed
 --   walk-pruned, walk-leaf, walk-in    a column that is chosen: too few rows bear it out; it was the last to choose; or more are chosen after it
 --   needed-few, needed-bounded, needed-one, needed-walk     the cases of `needed`
---   needed-marks              the count by marks is that by k-max values
 use Prim.Native.Nat.{ℕ, zero, suc, _+_, _-_, _/_, _%_, _^_, _≤_, _<_, max}
 use native.Mathlib.Omega.{arith}
-use mathlib.Core.Path.{_≡_, refl, sym, ap, ap₂, _∙_, subst}
+use mathlib.Core.Path.{_≡_, refl, sym, ap, _∙_, subst}
 use mathlib.Core.Bool.{Bool, true, false, not, cond, _&&_}
 use mathlib.Core.List.{List, [], _∷_, _++_, map}
-use lib.ListN.{length, set, replicate, length-append, length-replicate}
-use lib.Dec.{T, leb, ltb, leb→le, le→leb}
-use lib.Ieee.{Float}
+use lib.ListN.{set, replicate, length-append, length-replicate}
+use lib.Dec.{T, leb, leb→le, le→leb}
 use borrow.Author.Tests.{lt-ltb, le-ltb}
 use Rattle.order.specs.Counting.{count, all}
 use Rattle.order.proofs.Booleans.{and-left, and-right}
@@ -97,17 +95,6 @@ module _ (ms : List ℕ) (cols k : ℕ) where
               )
 
 -- ---- what is needed
-
-pub countable-fewer : {ms : List ℕ} {cols k live passed : ℕ} → Countable ms cols k live passed → (ms′ : List ℕ) → length ms′ ≤ length ms → Countable ms′ cols k live passed
-countable-fewer w ms′ h = record {
-  cols-most = w .cols-most;
-  marks-most = omega (arith, w .marks-most);
-  k-some = w .k-some;
-  k-most = w .k-most;
-  live-fits = w .live-fits;
-  passed-fits = w .passed-fits;
-  inside = w .inside;
-}
 
 module _ {ms : List ℕ} {cols k live passed : ℕ} (w : Countable ms cols k live passed) where
   among : columnsOf cols passed ⊆ columnsOf cols live

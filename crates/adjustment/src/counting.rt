@@ -11,7 +11,7 @@ ghost use Rattle.adjustment.specs.Passes.{largestOf};
 ghost use Rattle.adjustment.specs.Internal.{Countable, neededIn};
 
 // The larger of two counts.
-fn larger(a: usize, b: usize) -> usize
+pub(crate) fn larger(a: usize, b: usize) -> usize
     ensures { λ r. ⌜ r ≡ max a b ⌝ }
 {
     if a < b {

@@ -1,6 +1,7 @@
 // The adjusted figures of a table's columns: the least allowance e at which the stepdown method rejects each (document 02, §1).
 // A public call, which refuses bad input. The definitions are in specs/, their laws in proofs/.
 mod counting; // the count that a value needs, by row masks
+mod maxima; // counts by maxima, for all columns at once
 mod pass; // the pass down the observed values
 mod refusal; // what is turned away
 mod top; // the column with the largest value in a row

@@ -1,18 +1,15 @@
 // The pass down the observed values, largest first, the lower position first among equals: a column's figure is the running maximum of the counts needed.
 use super::counting;
-use super::top;
+use super::maxima;
 use limits::TABLE_ROWS_MOST;
 ghost use mathlib.Core.Path.{_≡_};
 ghost use Prim.Native.Nat.{_≤_, max};
 ghost use lib.ListN.{length, replicate};
-ghost use Rattle.order.specs.Order.{atMost};
 ghost use Rattle.order.specs.Lists.{rowsOf, padded};
 ghost use Rattle.columns.specs.Columns.{size, columnsOf};
 ghost use Rattle.adjustment.specs.Adjusted.{adjustedFigures};
-ghost use Rattle.adjustment.specs.Passes.{kMaxPass};
-ghost use Rattle.masks.specs.Internal.{CheckedTable};
-ghost use Rattle.masks.specs.Marks.{marksOf};
-ghost use Rattle.adjustment.specs.Internal.{Passable, Countable, neededIn};
+ghost use Rattle.adjustment.specs.Passes.{needed, kMaxPass};
+ghost use Rattle.adjustment.specs.Internal.{Passable, Raising};
 
 // M for each column, which is what a column has that is never rejected.
 fn unrejected(rows: usize, columns: usize) -> [usize; 32]
@@ -28,7 +25,7 @@ fn unrejected(rows: usize, columns: usize) -> [usize; 32]
     figures
 }
 
-// The larger of `figure` and the count that a value v needs with the columns of `passed` passed. The rows' masks are made for it.
+// The larger of `figure` and the count that v needs with `passed` passed: `bound`, the count by maxima, is it for k = 1, and no smaller once k are passed.
 fn raised(
     table: &[f64],
     marks: &mut [u32],
@@ -38,16 +35,25 @@ fn raised(
     live: u32,
     passed: u32,
     v: f64,
+    bound: usize,
     figure: usize,
 ) -> usize
-    requires { ⌜ CheckedTable (now table) rows columns k × (rows ≤ length (now marks)) × Countable (now marks) columns k live passed ⌝ }
-    ensures { λ r. ⌜ r ≡ max figure (neededIn k (marksOf k (λ x. atMost v x) (rowsOf rows columns (now (table .entry)))) (columnsOf columns live) (columnsOf columns passed)) ⌝ }
+    requires { ⌜ Raising (now table) rows columns k live passed v bound × (rows ≤ length (now marks)) × (length (now marks) ≤ 4096) ⌝ }
+    ensures { λ r. ⌜ r ≡ max figure (needed k (rowsOf rows columns (now (table .entry))) (columnsOf columns live) (columnsOf columns passed) v) ⌝ }
 {
+    if k == 1 {
+        return counting::larger(figure, bound);
+    }
+    if k <= masks::size_of(columns, passed) {
+        if bound <= figure {
+            return figure;
+        }
+    }
     let n = masks::mark(table, marks, rows, columns, k, v);
     counting::needed(&marks[..n], columns, k, live, passed, figure)
 }
 
-// The pass over the columns of `live`, of which there are k or more. A value no smaller than the last one for which a count was made needs no more.
+// The pass over the columns of `live`, of which there are k or more. A value no smaller than the last one with a count needs no count.
 fn down(
     table: &[f64],
     rows: usize,
@@ -59,22 +65,27 @@ fn down(
     requires { ⌜ Passable (now table) rows columns k observed live × (k ≤ size (columnsOf columns live)) ⌝ }
     ensures { λ r. ⌜ r ≡ padded 32 0 (kMaxPass k (rowsOf rows columns (now (table .entry))) (columnsOf columns live) observed) ⌝ }
 {
-    let mut marks = [0u32; TABLE_ROWS_MOST];
+    let mut ms = [0u32; TABLE_ROWS_MOST];
     let mut figures = unrejected(rows, columns);
     let from = observed * columns;
-    let to = from + columns;
+    let n = masks::size_of(columns, live);
+    let order = maxima::order(&table[from..from + columns], live);
+    let counts = maxima::maxima(table, rows, columns, observed, &order[..n]);
     let mut passed: u32 = 0;
     let mut figure: usize = 0;
     let mut last = f64::from_bits(0x7FF0_0000_0000_0000);
-    while passed != live {
-        let i = top::top_column(&table[from..to], live - passed);
+    let mut s: usize = 0;
+    while s < n {
+        let i = order[s];
         let v = table[from + i];
+        let b = counts[s];
         if v < last {
-            figure = raised(table, &mut marks, rows, columns, k, live, passed, v, figure);
+            figure = raised(table, &mut ms, rows, columns, k, live, passed, v, b, figure);
             last = v;
         }
         figures[i] = figure;
         passed += masks::bit(i);
+        s += 1;
     }
     figures
 }
