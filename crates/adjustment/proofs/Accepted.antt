@@ -18,7 +18,7 @@ use Rattle.masks.specs.Internal.{CheckedTable}
 use Rattle.stepdown.specs.Refusals.{tableRefusal}
 use Rattle.stepdown.proofs.Accepted.{Shape, shape, checked, full-length, all-finite}
 use Rattle.stepdown.proofs.Accepted as tables
-use Rattle.adjustment.specs.Answers.{figureChecks, figureCallRefusal}
+use Rattle.adjustment.specs.Answers.{adjustmentChecks, adjustmentCallRefusal}
 
 pub record Accepted (t : List Float) (rows columns k observed : ℕ) : Type 0 where
   pub shaped : Shape rows columns k
@@ -27,10 +27,10 @@ pub record Accepted (t : List Float) (rows columns k observed : ℕ) : Type 0 wh
   pub finitely : Finite t
 
 module _ (t : List Float) (rows columns k observed : ℕ) where
-  pub accepted : firstRefusal (figureChecks t rows columns k observed) ≡ 0 → Accepted t rows columns k observed
-  unfolding figureChecks
+  pub accepted : firstRefusal (adjustmentChecks t rows columns k observed) ≡ 0 → Accepted t rows columns k observed
+  unfolding adjustmentChecks
   accepted h =
-      let f = none-holds (figureChecks t rows columns k observed) h in
+      let f = none-holds (adjustmentChecks t rows columns k observed) h in
       record { shaped = shape rows columns k (f .0); full = full-length t (rows * columns) (f .1 .0); seen = leb-false rows observed (f .1 .1 .0); finitely = all-finite t (f .1 .1 .1 .0) }
 
   pub levelled : (a b : ℕ) → tableRefusal t rows columns k a b observed ≡ 0 → Accepted t rows columns k observed
@@ -45,10 +45,10 @@ module _ (t : List Float) (rows columns k observed : ℕ) where
 
   -- ---- with a work buffer
 
-  module _ (places : ℕ) (h : figureCallRefusal t rows columns k observed places ≡ 0) where
-    passed : (firstRefusal (figureChecks t rows columns k observed) ≡ 0) × (firstRefusal (tooShort places rows) ≡ 0)
-    unfolding figureCallRefusal
-    passed = both-pass (figureChecks t rows columns k observed) (tooShort places rows) h
+  module _ (places : ℕ) (h : adjustmentCallRefusal t rows columns k observed places ≡ 0) where
+    passed : (firstRefusal (adjustmentChecks t rows columns k observed) ≡ 0) × (firstRefusal (tooShort places rows) ≡ 0)
+    unfolding adjustmentCallRefusal
+    passed = both-pass (adjustmentChecks t rows columns k observed) (tooShort places rows) h
 
     pub call-accepted : Accepted t rows columns k observed
     call-accepted = accepted (passed .0)

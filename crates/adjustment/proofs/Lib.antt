@@ -6,11 +6,3 @@ pub mod PassFigures
 pub mod Passing
 pub mod Accepted
 pub mod Tables
-pub mod Scan
-pub mod PutBackCounts
-pub mod Stored
-pub mod NeededMarks
-pub mod PassOrder
-pub mod Tally
-pub mod Midway
-pub mod FigureCalls

@@ -2,4 +2,3 @@ pub mod Adjusted
 pub mod Passes
 pub mod Answers
 pub mod Examples
-pub mod Internal

@@ -26,8 +26,7 @@ use Rattle.stepdown.specs.Refusals.{badShape, badValue, tableChecks, tableRunCh
 use Rattle.stepdown.specs.Answers.{told, toldByBeginning, toldByStep, beginAnswer, stepAnswer, fullAnswer}
 use Rattle.stepdown.specs.declared.Run.{Run}
 use Rattle.adjustment.specs.Adjusted.{tableFigures}
-use Rattle.adjustment.specs.Answers as adjusted
-use Rattle.adjustment.specs.Answers.{figureCallChecks, figureCallRefusal, acceptedFigures, refusedFigures, figuresAnswer}
+use Rattle.adjustment.specs.Answers.{adjustmentChecks, adjustmentCallChecks, adjustmentCallRefusal, acceptedFigures, refusedFigures, figuresAnswer}
 use Rattle.adjustment.specs.declared.Adjusted.{Adjusted}
 use Rattle.verdicts.specs.Verdicts.{rejectedCount}
 use Rattle.trial.specs.Exchange.{rowTotal, tableOf}
@@ -100,14 +99,14 @@ module _ (rows columns k a b observed : ℕ) where
   table-order t places = refl
 
 -- the adjusted figures of a table: no level is taken, so 3 is skipped: 4, 9, 10, 11, then 12
-pub figures-order : (t : List Float) (rows columns k observed places : ℕ) → figureCallChecks t rows columns k observed places ≡
+pub figures-order : (t : List Float) (rows columns k observed places : ℕ) → adjustmentCallChecks t rows columns k observed places ≡
     (badShape rows columns k, r4)
     ∷ (not (eqb (length t) (rows * columns)), r9)
     ∷ (leb rows observed, r10)
     ∷ (badValue t, r11)
     ∷ (ltb places rows, r12)
     ∷ []
-unfolding adjusted.figureChecks
+unfolding adjustmentChecks
 figures-order t rows columns k observed places = refl
 
 -- a step: 14, 13, 9, 11, 12
@@ -129,7 +128,7 @@ c-order file t rows columns k a b observed work places = (refl, refl)
 
 pub c-adjusted-order : (file : List ℕ) (t : List Float) (rows columns k observed work places : ℕ)
     → (trialAdjustedChecks file places ≡ fileChecks file ++ tooShort places (fileOffers file))
-    × (tableAdjustedChecks t rows columns k observed work places ≡ figureCallChecks t rows columns k observed work ++ tooShort places columns)
+    × (tableAdjustedChecks t rows columns k observed work places ≡ adjustmentCallChecks t rows columns k observed work ++ tooShort places columns)
 c-adjusted-order file t rows columns k observed work places = (refl, refl)
 
 -- ==== the numbers and values that are answered ====
@@ -146,9 +145,9 @@ pub full-number : (t : List Float) (rows columns k a b observed places : ℕ) �
 unfolding fullAnswer tableRunRefusal acceptedRun
 full-number t rows columns k a b observed places = answer-map (λ (f : FullRun). f .refusal) (tableRunChecks t rows columns k a b observed places) (acceptedRun (tableRun t rows columns k a b observed)) refusedRun
 
-pub figures-number : (t : List Float) (rows columns k observed places : ℕ) → figuresAnswer t rows columns k observed places .refusal ≡ figureCallRefusal t rows columns k observed places
-unfolding figuresAnswer figureCallRefusal
-figures-number t rows columns k observed places = answer-map (λ (f : Adjusted). f .refusal) (figureCallChecks t rows columns k observed places) (acceptedFigures rows (tableFigures t rows columns k observed)) refusedFigures
+pub figures-number : (t : List Float) (rows columns k observed places : ℕ) → figuresAnswer t rows columns k observed places .refusal ≡ adjustmentCallRefusal t rows columns k observed places
+unfolding figuresAnswer adjustmentCallRefusal
+figures-number t rows columns k observed places = answer-map (λ (f : Adjusted). f .refusal) (adjustmentCallChecks t rows columns k observed places) (acceptedFigures rows (tableFigures t rows columns k observed)) refusedFigures
 
 pub trial-number : (t : Trial) (places work : ℕ) → trialAnswer t places work .refusal ≡ runCallRefusal t places work
 unfolding trialAnswer runCallRefusal acceptedRun

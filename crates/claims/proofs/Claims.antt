@@ -31,7 +31,7 @@ use Rattle.stepdown.specs.Stepping.{stepped, steppedRecords, lastRun}
 use Rattle.stepdown.specs.declared.Run.{Run}
 use Rattle.adjustment.specs.Adjusted.{rejectedIn, tableFigures}
 use Rattle.adjustment.specs.Passes.{maximumPass, kMaxPass}
-use Rattle.adjustment.specs.Answers.{figureChecks, figureCallChecks, figureCallRefusal, acceptedFigures, refusedFigures, figuresAnswer, figuresWork}
+use Rattle.adjustment.specs.Answers.{adjustmentChecks, adjustmentCallChecks, adjustmentCallRefusal, acceptedFigures, refusedFigures, figuresAnswer, figuresWork}
 use Rattle.adjustment.specs.Examples as adjusted
 use Rattle.adjustment.proofs.Accepted.{accepted}
 use Rattle.adjustment.proofs.Tables as figures
@@ -168,15 +168,15 @@ tables = tables-answered
 
 -- of an accepted table the call answers M and, for each column, the least e from 0 to M - 1 at which the method rejects it, or M; the work buffer is cleared
 module _ (t : List Float) (rows columns k observed : ℕ) where
-  pub table-figures : (places : ℕ) → figureCallRefusal t rows columns k observed places ≡ 0 → figuresAnswer t rows columns k observed places ≡ acceptedFigures rows (tableFigures t rows columns k observed)
-  unfolding figuresAnswer figureCallRefusal
-  table-figures places h = answered (figureCallChecks t rows columns k observed places) _ refusedFigures .gives h
+  pub table-figures : (places : ℕ) → adjustmentCallRefusal t rows columns k observed places ≡ 0 → figuresAnswer t rows columns k observed places ≡ acceptedFigures rows (tableFigures t rows columns k observed)
+  unfolding figuresAnswer adjustmentCallRefusal
+  table-figures places h = answered (adjustmentCallChecks t rows columns k observed places) _ refusedFigures .gives h
 
-  pub figures-work : (work : List Float) → figureCallRefusal t rows columns k observed (length work) ≡ 0 → figuresWork t rows columns k observed work ≡ cleared rows work
-  unfolding figuresWork figureCallRefusal
-  figures-work work h = answered (figureCallChecks t rows columns k observed (length work)) _ (λ _. work) .gives h
+  pub figures-work : (work : List Float) → adjustmentCallRefusal t rows columns k observed (length work) ≡ 0 → figuresWork t rows columns k observed work ≡ cleared rows work
+  unfolding figuresWork adjustmentCallRefusal
+  figures-work work h = answered (adjustmentCallChecks t rows columns k observed (length work)) _ (λ _. work) .gives h
 
-  module _ (ok : firstRefusal (figureChecks t rows columns k observed) ≡ 0) where
+  module _ (ok : firstRefusal (adjustmentChecks t rows columns k observed) ≡ 0) where
     -- loosening drops nobody: what the method rejects at e it rejects at every larger e below M; so a figure is at most e exactly when the method rejects at e
     pub drops-nobody : (j : ℕ) → j < columns → (e e′ : ℕ) → e ≤ e′ → e′ < rows → T (rejectedIn t rows columns k observed e j) → T (rejectedIn t rows columns k observed e′ j)
     drops-nobody = figures.table-stays t rows columns k observed (accepted t rows columns k observed ok)
@@ -189,7 +189,7 @@ module _ (t : List Float) (rows columns k observed : ℕ) where
     by-one-pass = figures.table-kMaxPass t rows columns k observed (accepted t rows columns k observed ok)
 
 -- for k = 1 it is the pass that §1 words
-pub by-maxima : (t : List Float) (rows columns observed : ℕ) → firstRefusal (figureChecks t rows columns 1 observed) ≡ 0 → maximumPass (rowsOf rows columns t) (everyColumn columns) observed ≡ tableFigures t rows columns 1 observed
+pub by-maxima : (t : List Float) (rows columns observed : ℕ) → firstRefusal (adjustmentChecks t rows columns 1 observed) ≡ 0 → maximumPass (rowsOf rows columns t) (everyColumn columns) observed ≡ tableFigures t rows columns 1 observed
 by-maxima t rows columns observed ok = figures.table-maximumPass t rows columns observed (accepted t rows columns 1 observed ok)
 
 -- the list at a level a/b holds exactly the columns whose figure is at most e

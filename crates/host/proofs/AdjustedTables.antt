@@ -11,7 +11,7 @@ use lib.Ieee.{Float}
 use Rattle.refusals.specs.Answers.{Checks, firstRefusal}
 use Rattle.refusals.specs.Buffers.{written}
 use Rattle.adjustment.specs.Adjusted.{tableFigures}
-use Rattle.adjustment.specs.Answers.{figureChecks, figureCallChecks, figureCallRefusal, figuresAnswer, figuresWork}
+use Rattle.adjustment.specs.Answers.{adjustmentChecks, adjustmentCallChecks, adjustmentCallRefusal, figuresAnswer, figuresWork}
 use Rattle.adjustment.specs.declared.Adjusted.{Adjusted}
 use Rattle.adjustment.proofs.Accepted.{accepted, call-accepted}
 use Rattle.adjustment.proofs.Tables.{table-length, table-most}
@@ -21,7 +21,7 @@ use Rattle.host.proofs.TableCalls.{table-cramped, table-refused, table-
 
 module _ (t : List Float) (rows columns k observed : ℕ) where
   abbrev own : Checks
-  own = figureChecks t rows columns k observed
+  own = adjustmentChecks t rows columns k observed
 
   abbrev fs : List ℕ
   fs = tableFigures t rows columns k observed
@@ -31,7 +31,7 @@ module _ (t : List Float) (rows columns k observed : ℕ) where
 
   module _ (work : ℕ) (f : Adjusted) (e : f ≡ figuresAnswer t rows columns k observed work) where
     abbrev checks : Checks
-    checks = figureCallChecks t rows columns k observed work
+    checks = adjustmentCallChecks t rows columns k observed work
 
     number : f .refusal ≡ firstRefusal checks
     unfolding figuresAnswer
@@ -43,7 +43,7 @@ module _ (t : List Float) (rows columns k observed : ℕ) where
 
     module _ (z : f .refusal ≡ 0) where
       pub adjusted-known : (columns ≤ 32) × ((j : ℕ) → j < columns → getD (f .figures) j 0 ≤ 4096)
-      unfolding figuresAnswer figureCallRefusal
+      unfolding figuresAnswer adjustmentCallRefusal
       adjusted-known =
           let s = call-accepted t rows columns k observed work (sym number ∙ z) .shaped in
           (s .columns-most, λ j h. omega (arith, s .rows-most, figures-most checks rows fs f e z columns (table-length t rows columns k observed) (table-most t rows columns k observed) j h))

@@ -15,7 +15,7 @@ use lib.Ieee.{Float}
 use Rattle.refusals.specs.Answers.{Checks, answer, firstRefusal, afterwards}
 use Rattle.refusals.specs.Buffers.{tooShort, written, cleared}
 use Rattle.adjustment.specs.Adjusted.{tableFigures}
-use Rattle.adjustment.specs.Answers.{figureChecks, figureCallChecks}
+use Rattle.adjustment.specs.Answers.{adjustmentChecks, adjustmentCallChecks}
 use Rattle.trial.specs.Exchange.{rowTotal}
 use Rattle.words.specs.Words.{wordsOf}
 use Rattle.trialfile.specs.Files.{trialOf, fileChecks}
@@ -25,22 +25,22 @@ use Rattle.host.specs.Calls.{fileOffers}
 -- ---- a table
 
 abbrev pub tableAdjustedChecks : List Float → ℕ → ℕ → ℕ → ℕ → ℕ → ℕ → Checks
-tableAdjustedChecks t rows columns k observed work places = figureCallChecks t rows columns k observed work ++ tooShort places columns
+tableAdjustedChecks t rows columns k observed work places = adjustmentCallChecks t rows columns k observed work ++ tooShort places columns
 
 unfoldable pub tableAdjustedRefusal : List Float → ℕ → ℕ → ℕ → ℕ → ℕ → ℕ → ℕ
-unfolding firstRefusal figureChecks
+unfolding firstRefusal adjustmentChecks
 tableAdjustedRefusal t rows columns k observed work places = firstRefusal (tableAdjustedChecks t rows columns k observed work places)
 
 unfoldable pub tableAdjustedAnswer : List Float → ℕ → ℕ → ℕ → ℕ → ℕ → ℕ → ℕ
-unfolding answer figureChecks
+unfolding answer adjustmentChecks
 tableAdjustedAnswer t rows columns k observed work places = answer (tableAdjustedChecks t rows columns k observed work places) 0 (λ n. 100 + n)
 
 unfoldable pub tableAdjustedWork : List Float → ℕ → ℕ → ℕ → ℕ → List Float → ℕ → List Float
-unfolding answer figureChecks
+unfolding answer adjustmentChecks
 tableAdjustedWork t rows columns k observed work places = afterwards (tableAdjustedChecks t rows columns k observed (length work) places) (cleared rows work) work
 
 unfoldable pub tableAdjustedBuffer : List Float → ℕ → ℕ → ℕ → ℕ → ℕ → List ℕ → List ℕ
-unfolding answer figureChecks tableFigures
+unfolding answer adjustmentChecks tableFigures
 tableAdjustedBuffer t rows columns k observed work buf = afterwards (tableAdjustedChecks t rows columns k observed work (length buf)) (written (tableFigures t rows columns k observed) buf) buf
 
 -- ---- a file

@@ -36,10 +36,17 @@ pub extern "C" fn becardlarder_table_adjusted(
 {
     if figures.len() < columns {
         // The table's own refusals come first. With no work place the call below answers those or 12, and clears nothing.
-        let told = adjustment::adjusted_figures(table, &mut work[..0], rows, columns, k, observed);
+        let told = tableadjustment::adjusted_figures(
+            table,
+            &mut work[..0],
+            rows,
+            columns,
+            k,
+            observed,
+        );
         return 100 + told.refusal;
     }
-    let told = adjustment::adjusted_figures(table, work, rows, columns, k, observed);
+    let told = tableadjustment::adjusted_figures(table, work, rows, columns, k, observed);
     let refusal = told.refusal;
     if refusal != 0 {
         return 100 + refusal;

@@ -14,7 +14,7 @@ use Rattle.refusals.specs.Answers.{Checks, firstRefusal}
 use Rattle.refusals.specs.Buffers.{tooShort, cleared}
 use Rattle.refusals.proofs.Answers.{none-holds, none-first, first-passes, accepted}
 use Rattle.stepdown.specs.Refusals.{tableChecks, tableRefusal}
-use Rattle.adjustment.specs.Answers.{figureChecks, figureCallChecks, figureCallRefusal, acceptedFigures, refusedFigures, figuresAnswer, figuresWork}
+use Rattle.adjustment.specs.Answers.{adjustmentChecks, adjustmentCallChecks, adjustmentCallRefusal, acceptedFigures, refusedFigures, figuresAnswer, figuresWork}
 use Rattle.adjustment.specs.declared.Adjusted.{Adjusted}
 use Rattle.trial.specs.Exchange.{rowTotal, tableOf}
 use Rattle.trial.specs.Refusals.{trialRefusal}
@@ -28,25 +28,25 @@ use Rattle.trialadjustment.specs.TrialFigures.{trialFigures, trialFigure
 
 module _ (t : Trial) (ok : trialRefusal t ≡ 0) where
   -- those of a table but that of its level
-  pub table-passes : firstRefusal (figureChecks (tableOf t) (rowTotal t) (t .shape .offers) (t .shape .k) 0) ≡ 0
-  unfolding tableRefusal tableChecks figureChecks
+  pub table-passes : firstRefusal (adjustmentChecks (tableOf t) (rowTotal t) (t .shape .offers) (t .shape .k) 0) ≡ 0
+  unfolding tableRefusal tableChecks adjustmentChecks
   table-passes =
       let f = none-holds (tableChecks (tableOf t) (rowTotal t) (t .shape .offers) (t .shape .k) (t .level .a) (t .level .b) 0) (table-accepted t (known t 0 (sym ok) refl)) in
-      none-first (figureChecks (tableOf t) (rowTotal t) (t .shape .offers) (t .shape .k) 0) (f .0, (f .1 .1 .0, (f .1 .1 .1 .0, (f .1 .1 .1 .1 .0, tt))))
+      none-first (adjustmentChecks (tableOf t) (rowTotal t) (t .shape .offers) (t .shape .k) 0) (f .0, (f .1 .1 .0, (f .1 .1 .1 .0, (f .1 .1 .1 .1 .0, tt))))
 
   abbrev checks : ℕ → Checks
-  checks places = figureCallChecks (tableOf t) (rowTotal t) (t .shape .offers) (t .shape .k) 0 places
+  checks places = adjustmentCallChecks (tableOf t) (rowTotal t) (t .shape .offers) (t .shape .k) 0 places
 
-  pub call-passes : (places : ℕ) → rowTotal t ≤ places → figureCallRefusal (tableOf t) (rowTotal t) (t .shape .offers) (t .shape .k) 0 places ≡ 0
-  unfolding figureCallRefusal
-  call-passes places h = first-passes (figureChecks (tableOf t) (rowTotal t) (t .shape .offers) (t .shape .k) 0) (tooShort places (rowTotal t)) 0 (sym table-passes) refl ∙ none-first (tooShort places (rowTotal t)) (le-ltb places (rowTotal t) h, tt)
+  pub call-passes : (places : ℕ) → rowTotal t ≤ places → adjustmentCallRefusal (tableOf t) (rowTotal t) (t .shape .offers) (t .shape .k) 0 places ≡ 0
+  unfolding adjustmentCallRefusal
+  call-passes places h = first-passes (adjustmentChecks (tableOf t) (rowTotal t) (t .shape .offers) (t .shape .k) 0) (tooShort places (rowTotal t)) 0 (sym table-passes) refl ∙ none-first (tooShort places (rowTotal t)) (le-ltb places (rowTotal t) h, tt)
 
   pub table-figured : (places : ℕ) → rowTotal t ≤ places → figuresAnswer (tableOf t) (rowTotal t) (t .shape .offers) (t .shape .k) 0 places ≡ acceptedFigures (rowTotal t) (trialFigures t)
-  unfolding figuresAnswer figureCallRefusal trialFigures
+  unfolding figuresAnswer adjustmentCallRefusal trialFigures
   table-figured places h = sym (accepted (acceptedFigures (rowTotal t) (trialFigures t)) refusedFigures (checks places) 0 (sym (call-passes places h)) refl)
 
   pub table-cleared : (work : List Float) → rowTotal t ≤ length work → figuresWork (tableOf t) (rowTotal t) (t .shape .offers) (t .shape .k) 0 work ≡ cleared (rowTotal t) work
-  unfolding figuresWork figureCallRefusal
+  unfolding figuresWork adjustmentCallRefusal
   table-cleared work h = sym (accepted (cleared (rowTotal t) work) (λ _. work) (checks (length work)) 0 (sym (call-passes (length work) h)) refl)
 
   pub trial-figures-answered : (places work : ℕ) → rowTotal t * t .shape .offers ≤ places → rowTotal t ≤ work → trialFiguresAnswer t places work ≡ acceptedFigures (rowTotal t) (trialFigures t)

@@ -27,7 +27,7 @@ pub fn trial_figures(t: Trial, table: &mut [f64], work: &mut [f64]) -> Adjusted
         return adjustment::refused(12);
     }
     trialtable::table(t, table);
-    adjustment::adjusted_figures(&table[..total], work, s.rows, s.columns, t.shape.k, 0)
+    tableadjustment::adjusted_figures(&table[..total], work, s.rows, s.columns, t.shape.k, 0)
 }
 
 // What a file's figures answer: `adjusted.refusal` is 0, or the number by which the file is turned away; then the trial holds nothing but zeros.
