@@ -78,11 +78,11 @@ module _ {t : List Float} {rows columns k live passed : ℕ} {v : Float} {bound 
   sounds : Sound columns (rowsOf rows columns t)
   sounds = rowsOf-sound rows columns t (m .ready .full) (m .ready .finitely)
 
-  pub raising-counts : (ms : List ℕ) → length ms ≤ 4096 → Countable ms columns k live passed
-  raising-counts ms h = record {
+  pub raising-counts : (k ≡ 1 → ⊥) → (ms : List ℕ) → length ms ≤ 4096 → Countable ms columns k live passed
+  raising-counts f ms h = record {
     cols-most = m .ready .cols-most;
     marks-most = h;
-    k-some = m .ready .k-some;
+    k-many = omega (arith, f, m .ready .k-some);
     k-most = m .ready .k-most;
     live-fits = m .live-fits;
     passed-fits = m .passed-fits;

@@ -1,7 +1,7 @@
 -- The count that a value needs, by marks: the walk over the sets that are put back, and what it gives.
 --   walk-none, walk-skip      nothing left to choose from; a column that is not passed
 --   walk-pruned, walk-leaf, walk-in    a column that is chosen: too few rows bear it out; it was the last to choose; or more are chosen after it
---   needed-few, needed-bounded, needed-one, needed-walk     the cases of `needed`
+--   needed-few, needed-bounded, needed-walk     the cases of `needed`
 use Prim.Native.Nat.{ℕ, zero, suc, _+_, _-_, _/_, _%_, _^_, _≤_, _<_, max}
 use native.Mathlib.Omega.{arith}
 use mathlib.Core.Path.{_≡_, refl, sym, ap, _∙_, subst}
@@ -150,15 +150,5 @@ module _ {ms : List ℕ} {cols k live passed : ℕ} (w : Countable ms cols k liv
         looked-at = looked ∙ holding-columns cols 1 (live - passed) ms (w .cols-most) remaining-fits
 
         pub needed-bounded : c ≤ best → best ≡ max best (neededIn k ms (columnsOf cols live) (columnsOf cols passed))
-        needed-bounded low = let q : k - (k - 1) ≡ 1 = omega (arith, w .k-some) in
+        needed-bounded low = let q : k - (k - 1) ≡ 1 = omega (arith, w .k-many) in
             omega (arith, sets, bounded ms cols k (live - passed) passed 0 (k - 1) (omega arith), ap (λ (j : ℕ). holdingColumns j (columnsOf cols (live - passed)) ms) q, looked-at)
-
-        pub needed-one : best < c → k ≡ 1 → c ≡ max best (neededIn k ms (columnsOf cols live) (columnsOf cols passed))
-        unfolding largestOf
-        needed-one high z = omega (
-          arith,
-          sets,
-          ap largestOf (values-leaf (λ K. holdingColumns k K ms) cols (live - passed) passed 0 (k - 1) (omega arith) (omega arith)),
-          ap (λ (j : ℕ). holdingColumns j (columnsOf cols (live - passed)) ms) z,
-          looked-at,
-        )

@@ -63,7 +63,7 @@ fn walk(
     walk(marks, columns, k, set, rest / 2, from + 1, left, b)
 }
 
-// The larger of `best` and the count that is needed with the columns of `passed` passed.
+// The larger of `best` and the count that is needed with the columns of `passed` passed, for k above 1.
 pub(crate) fn needed(
     marks: &[u32],
     columns: usize,
@@ -82,9 +82,6 @@ pub(crate) fn needed(
     let c = masks::count_holding(marks, left, 1);
     if c <= best {
         return best;
-    }
-    if k == 1 {
-        return c;
     }
     walk(marks, columns, k, left, passed, 0, k - 1, best)
 }

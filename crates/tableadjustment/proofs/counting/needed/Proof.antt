@@ -1,5 +1,5 @@
 -- `needed` meets its contract; each case is a law of proofs/PutBackCounts.antt.
-use Rattle.tableadjustment.proofs.PutBackCounts.{passed-within, first-walk, needed-few, needed-bounded, needed-one, needed-walk}
+use Rattle.tableadjustment.proofs.PutBackCounts.{passed-within, first-walk, needed-few, needed-bounded, needed-walk}
 use native.Mathlib.Omega.{arith}
 use borrow.Author.Needs.{needs}
 use Rattle.tableadjustment.proofs.counting.needed.Statement.{statement}
@@ -20,20 +20,14 @@ returns-2 c =
     let n = h .before .before in
     needed-bounded (n .before .before .pre) _ (omega (arith, n .size-of .ensures, h .before .if1 .left)) _ (h .count-holding2 .ensures) (c .if2 .taken)
 
+walk-requires : tie.Need-walk-requires
+walk-requires c κs =
+    let w = c .before .before .before .before .before .pre in
+    (first-walk w, w .cols-most, w .marks-most, w .k-most, omega (arith, w .k-many), omega (arith, w .k-many))
+
 returns-3 : tie.Need-returns-3
 returns-3 c =
     let h = c .before .before in
-    let n = h .before .before in
-    needed-one (n .before .before .pre) _ (omega (arith, n .size-of .ensures, h .before .if1 .left)) _ (h .count-holding2 .ensures) (c .before .if2 .left) (c .if3 .taken)
-
-walk-requires : tie.Need-walk-requires
-walk-requires c κs =
-    let w = c .before .before .before .before .before .before .pre in
-    (first-walk w, w .cols-most, w .marks-most, w .k-most, omega (arith, w .k-some, c .if3 .left), omega (arith, w .k-some))
-
-returns-4 : tie.Need-returns-4
-returns-4 c =
-    let h = c .before .before .before in
     let n = h .before .before in
     needed-walk (n .before .before .pre) _ (omega (arith, n .size-of .ensures, h .before .if1 .left)) _ (c .walk .ensures)
 
@@ -48,7 +42,6 @@ needed-spec =
     sub-left
     (λ c κs. search needs)
     returns-2
-    returns-3
     (λ c. search needs)
     walk-requires
-    returns-4)
+    returns-3)

@@ -26,7 +26,7 @@ needed-requires : tie.Need-needed-requires
 needed-requires c κs =
     let n = c .before .before .before in
     let p = n .before .before .before .before .before .before .before .pre in
-    raising-counts (p .0) _ (omega (arith, slice-aggregate-needed c, n .mark .ensures .0, p .1, p .2))
+    raising-counts (p .0) (n .before .before .before .before .if1 .left) _ (omega (arith, slice-aggregate-needed c, n .mark .ensures .0, p .1, p .2))
 
 returns-3 : tie.Need-returns-3
 returns-3 c = let n = c .before .before .before .before in raised-counted (n .before .before .before .before .before .before .before .pre .0) _ _ _ (c .needed .ensures) (n .mark .ensures .1)
