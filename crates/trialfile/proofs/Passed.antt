@@ -1,7 +1,7 @@
 -- What the words of an accepted file are known to be.
 --   Passed, passed       what holds at each place
---   words-many           how many words there are
 --   contents-read        the contents of their trial
+--   codes-at, digits-at, figures-at     its parts, place by place
 --   trial-accepted       their trial is accepted
 --   trial-lengths        its arrays have their lengths
 --   file-passed          an accepted file has a good length, and its words pass
