@@ -19,9 +19,9 @@ use Rattle.trial.specs.Record.{blank}
 use Rattle.trial.specs.declared.Trial.{Trial}
 use Rattle.words.specs.Words.{wordsOf}
 use Rattle.trialfile.specs.Files.{trialOf, fileChecks, fileRefusal, readingOf}
-use Rattle.trialfile.specs.Writings.{fileLength, writeChecks, writeRefusal, writingOf, afterWriting}
 use Rattle.trialfile.specs.declared.Reading.{Reading}
-use Rattle.trialfile.specs.declared.Writing.{Writing}
+use Rattle.trialwriter.specs.Writings.{fileLength, writeChecks, writeRefusal, writingOf, afterWriting}
+use Rattle.trialwriter.specs.declared.Writing.{Writing}
 use Rattle.text.specs.declared.Rendering.{Rendering}
 use Rattle.rendering.specs.Reports.{reportOf}
 use Rattle.rendering.specs.Renderings.{renderChecks, renderRefusal, renderingOf}

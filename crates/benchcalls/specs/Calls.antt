@@ -26,7 +26,7 @@ use Rattle.trial.specs.declared.Design.the-variants.{Paired}
 use Rattle.trial.specs.declared.Trial.{Trial}
 use Rattle.words.specs.Words.{wordsOf}
 use Rattle.trialfile.specs.Files.{trialOf, fileChecks}
-use Rattle.trialfile.specs.Writings.{writeChecks, fileLength}
+use Rattle.trialwriter.specs.Writings.{writeChecks, fileLength}
 use Rattle.rendering.specs.Reports.{reportOf}
 use Rattle.rendering.specs.Renderings.{renderChecks}
 

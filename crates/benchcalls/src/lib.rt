@@ -15,7 +15,7 @@ ghost use lib.ListN.{length};
 ghost use Rattle.stepdown.specs.Refusals.{tableRunRefusal};
 ghost use Rattle.stepdown.specs.Answers.{fullWork};
 ghost use Rattle.trialfile.specs.Files.{fileRefusal};
-ghost use Rattle.trialfile.specs.Writings.{writeRefusal, afterWriting};
+ghost use Rattle.trialwriter.specs.Writings.{writeRefusal, afterWriting};
 ghost use Rattle.rendering.specs.Renderings.{renderRefusal, afterRendering};
 ghost use Rattle.benchcalls.specs.Calls.{figuresOf, codesOf, digitsOf, differencesOf, trialFrom, criticalOfRecord, stepOfDecision, stepsIn, criticalsIn, countsIn, verdictsOf, fromFile, lengthWritten, lengthRendered, fromTable};
 
@@ -110,7 +110,7 @@ pub extern "C" fn bench_write(
     ensures { λ r. ⌜ now (written .exit) ≡ lengthWritten (trialFrom (now (figures .entry)) (now (codes .entry)) (now (digits .entry)) (now (differences .entry))) (length (now (out .entry))) (now (written .entry)) ⌝ }
 {
     let t = put_together(figures, codes, digits, differences);
-    let writing = trialfile::write(t, out);
+    let writing = trialwriter::write(t, out);
     if writing.refusal == 0 {
         *written = writing.length;
     }

@@ -37,12 +37,12 @@ use Rattle.trial.specs.declared.Shape.{Shape}
 use Rattle.trial.specs.Lent.{tableCallChecks, tableCallRefusal, tableBuffer}
 use Rattle.trial.specs.declared.Trial.{Trial}
 use Rattle.words.specs.Words.{wordsOf, word}
-use Rattle.trialfile.specs.Layouts.{levelAt, shapeAt, layoutOf}
+use Rattle.layouts.specs.Layouts.{levelAt, shapeAt, layoutOf}
 use Rattle.words.specs.Words.{shapeIn}
 use Rattle.trialfile.specs.Files.{badLength, levelPlace, shapePlace, offerPlace, figurePlace, endPlace, bodyPlaces, fileChecks, fileRefusal, trialOf, readingOf}
-use Rattle.trialfile.specs.Writings.{fileLength, writeChecks, writeRefusal, writingOf}
-use Rattle.trialfile.specs.declared.Writing.{Writing}
-use Rattle.trialfile.proofs.RoundTrip.{read-refusal}
+use Rattle.trialwriter.specs.Writings.{fileLength, writeChecks, writeRefusal, writingOf}
+use Rattle.trialwriter.specs.declared.Writing.{Writing}
+use Rattle.trialfile.proofs.Taken.{read-refusal}
 use Rattle.trialrun.specs.TrialRuns.{trialRun, runCallChecks, runCallRefusal, trialAnswer}
 use Rattle.trialrun.specs.FileRuns.{fileRun}
 use Rattle.trialadjustment.specs.TrialFigures.{trialFigures}

@@ -45,7 +45,7 @@ use Rattle.trial.proofs.Unused.{same-trimmed}
 use Rattle.trial.proofs.Exact.{row-exact}
 use Rattle.words.specs.Words.{Bytes, wordsOf}
 use Rattle.trialfile.specs.Files.{fileChecks, trialOf, fileRefusal, readingOf}
-use Rattle.trialfile.specs.Writings.{fileLength, writingOf, afterWriting}
+use Rattle.trialwriter.specs.Writings.{fileLength, writingOf, afterWriting}
 use Rattle.trialrun.specs.TrialRuns.{trialRun, runCallChecks, runCallRefusal, trialAnswer}
 use Rattle.trialadjustment.specs.TrialFigures.{rejectedOf, trialFigures, trialFiguresAnswer}
 use Rattle.trialadjustment.proofs.Trials as trialfigures

@@ -13,12 +13,13 @@ use Rattle.trial.specs.Refusals.{trialRefusal}
 use Rattle.trial.specs.declared.Trial.{Trial}
 use Rattle.words.specs.Words.{Bytes, wordsOf}
 use Rattle.trialfile.specs.Files.{trialOf, fileRefusal, readingOf}
-use Rattle.trialfile.specs.Writings.{fileOf, fileLength, writingOf, afterWriting}
 use Rattle.trialfile.specs.declared.Reading.{Reading}
-use Rattle.trialfile.specs.declared.Writing.{Writing}
-use Rattle.trialfile.proofs.Writes.{writing-done}
-use Rattle.trialfile.proofs.Written.{fileLength-is}
-use Rattle.trialfile.proofs.RoundTrip.{write-read, read-taken, read-write, read-accepted, read-lengths}
+use Rattle.trialwriter.specs.Writings.{fileOf, fileLength, writingOf, afterWriting}
+use Rattle.trialwriter.specs.declared.Writing.{Writing}
+use Rattle.trialwriter.proofs.Writes.{writing-done}
+use Rattle.trialwriter.proofs.Written.{fileLength-is}
+use Rattle.trialfile.proofs.Taken.{read-taken, read-accepted, read-lengths}
+use Rattle.trialwriter.proofs.RoundTrip.{write-read, read-write}
 
 module _ (t : Trial) (ty : ArrayLengths t) (h : trialRefusal t ≡ 0) where
   module _ (buf : List ℕ) (room : fileLength t ≤ length buf) where

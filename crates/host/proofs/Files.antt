@@ -19,7 +19,7 @@ use Rattle.trial.specs.declared.Trial.{Trial}
 use Rattle.trial.proofs.Accepted.{accepted}
 use Rattle.words.specs.Words.{wordsOf}
 use Rattle.trialfile.specs.Files.{trialOf, fileChecks, fileRefusal}
-use Rattle.trialfile.proofs.RoundTrip.{read-accepted}
+use Rattle.trialfile.proofs.Taken.{read-accepted}
 use Rattle.trialrun.specs.TrialRuns.{trialRun}
 use Rattle.trialrun.specs.FileRuns.{acceptedFile, refusedFile, fileRun}
 use Rattle.trialrun.specs.declared.FileRun.{FileRun}

@@ -14,7 +14,7 @@ use Rattle.verdicts.specs.Verdicts.{rejectedCount}
 use Rattle.trial.specs.declared.Shape.{Shape}
 use Rattle.words.specs.Words.{wordsOf}
 use Rattle.trialfile.specs.Files.{trialOf, fileChecks, fileRefusal}
-use Rattle.trialfile.proofs.RoundTrip.{read-accepted}
+use Rattle.trialfile.proofs.Taken.{read-accepted}
 use Rattle.trialrun.specs.TrialRuns.{trialRun}
 use Rattle.trialrun.specs.FileRuns.{acceptedFile}
 use Rattle.trialrun.specs.declared.FileRun.{FileRun}

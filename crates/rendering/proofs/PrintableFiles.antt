@@ -36,7 +36,7 @@ use Rattle.trial.proofs.Accepted.{Accepted, accepted}
 use Rattle.trial.proofs.Tables.{rowOf-all, tableOf-rows}
 use Rattle.words.specs.Words.{wordsOf}
 use Rattle.trialfile.specs.Files.{trialOf, fileChecks, fileRefusal}
-use Rattle.trialfile.proofs.RoundTrip.{read-accepted}
+use Rattle.trialfile.proofs.Taken.{read-accepted}
 use Rattle.trialfile.proofs.Inputs.{digits-few}
 use Rattle.trialrun.specs.TrialRuns.{trialRun}
 use Rattle.trialrun.specs.FileRuns.{acceptedFile, refusedFile, fileRun}

@@ -9,7 +9,7 @@ use Rattle.refusals.proofs.Answers.{answer-map}
 use Rattle.trial.proofs.Accepted.{accepted}
 use Rattle.words.specs.Words.{wordsOf}
 use Rattle.trialfile.specs.Files.{trialOf, fileChecks, fileRefusal}
-use Rattle.trialfile.proofs.RoundTrip.{read-accepted}
+use Rattle.trialfile.proofs.Taken.{read-accepted}
 use Rattle.trialfile.proofs.Inputs.{digits-few}
 use Rattle.trialadjustment.specs.FileFigures.{acceptedFile, refusedFile, fileFigures}
 use Rattle.trialadjustment.specs.declared.FileFigures.{FileFigures}

@@ -1,14 +1,9 @@
--- Examples: W's file is written and read as document 01 prints it; which refusals some other files meet.
+-- Examples: W's file is read as document 01 prints it; which refusals some other files meet.
 use mathlib.Core.Path.{_≡_, refl}
 use Rattle.trial.specs.Examples.{trialW}
-use Rattle.words.specs.Words.{bytesOf, signed, bitsOf}
+use Rattle.words.specs.Words.{bytesOf, signed}
 use Rattle.trialfile.specs.Files.{fileRefusal, readingOf}
-use Rattle.trialfile.specs.Writings.{fileOf}
 use Rattle.trialfile.specs.Examples.{wordsW, wordsTwice, wordsSurplus, wordsAfter}
-
-pub write-W : fileOf trialW ≡ bytesOf wordsW
-unfolding fileOf trialW wordsW bitsOf
-write-W = refl
 
 pub read-W : readingOf (bytesOf wordsW) ≡ record { refusal = 0; trial = trialW }
 unfolding readingOf wordsW trialW signed bytesOf

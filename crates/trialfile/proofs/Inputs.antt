@@ -1,26 +1,30 @@
 -- What is said of a file takes no notice of what comes after one byte more than the longest file; and what is known of the labels of an accepted one.
 --   too-long       a longer input is refused by 1
 --   file-cut       what is answered for the first `inputRoom` bytes is what is answered for them all
+--   printed        what it is for an offer to pass 5
 --   digits-few     the printed digits of an accepted trial's offers are few
-use Prim.Native.Nat.{ℕ, _%_, _≤_, _<_}
+use Prim.Native.Nat.{ℕ, _%_, _^_, _≤_, _<_}
 use native.Mathlib.Omega.{arith}
 use native.Mathlib.Decide.{decLe}
+use native.Mathlib.Nat.{pow-le-pow-right, zero-lt-suc}
 use mathlib.Core.Path.{_≡_, refl, sym, ap, _∙_}
 use mathlib.Core.Bool.{Bool, true, false, false≢true, cond, not, _||_}
 use mathlib.Core.List.{List}
 use lib.ListN.{length, getD, take}
 use lib.Seq.{take-all, length-take-le, getD-take}
-use lib.Dec.{ltb, eqb}
-use borrow.Author.Tests.{lt-ltb}
+use lib.Dec.{leb, ltb, eqb}
+use borrow.Author.Tests.{lt-ltb, leb-false}
 use Rattle.limits.specs.Limits.{digitsMost, longestFile, inputRoom}
 use Rattle.refusals.specs.Answers.{answer, firstRefusal}
+use Rattle.refusals.specs.Limits.{outside}
 use Rattle.refusals.proofs.Answers.{refused}
+use Rattle.refusals.proofs.Limits.{or-none, inside}
 use Rattle.trial.specs.Record.{settingOf}
+use Rattle.trial.specs.Refusals.{badDigits}
 use Rattle.trial.specs.declared.Trial.{Trial}
 use Rattle.trial.proofs.Accepted.{Accepted}
 use Rattle.words.specs.Words.{wordsOf}
 use Rattle.trialfile.specs.Files.{badLength, placeChecks, fileChecks, fileRefusal}
-use Rattle.trialfile.proofs.Written.{printed}
 
 pub too-long : (bytes : List ℕ) → longestFile < length bytes → fileRefusal bytes ≡ 1
 unfolding fileRefusal firstRefusal badLength
@@ -47,6 +51,14 @@ module _ {A : Type 0} (done : List ℕ → A) (refusing : ℕ → A) where
       go : Dec (length bytes ≤ inputRoom) → said (take inputRoom bytes) ≡ said bytes
       go (yes h) = ap said (take-all inputRoom bytes h)
       go (no h) = said-long (take inputRoom bytes) (omega (arith, length-take-le inputRoom bytes (omega (arith, h)))) ∙ sym (said-long bytes (omega (arith, h)))
+
+pub printed : (c d : ℕ) → badDigits c d ≡ false → (c < 16777216) × (d ≤ digitsMost)
+unfolding badDigits
+printed c d h =
+    let f = or-none (outside 1 digitsMost d) (leb (10 ^ d) c) h in
+    let most : d ≤ digitsMost = inside 1 digitsMost d (f .0) .1 in
+    let ten : 10 ^ d ≤ 10 ^ digitsMost = pow-le-pow-right (zero-lt-suc 9) most in
+    (omega (arith, leb-false (10 ^ d) c (f .1)), most)
 
 pub digits-few : (t : Trial) → Accepted t → (i : ℕ) → i < t .shape .offers → getD (t .labels .digits) i 0 ≤ digitsMost
 digits-few t acc i l = omega (arith, getD-take (t .shape .offers) (t .labels .digits) i 0 l, printed (getD (settingOf t .codes) i 0) (getD (settingOf t .digits) i 0) (acc .labels-pass i l .0) .1)

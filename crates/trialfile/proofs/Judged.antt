@@ -8,7 +8,7 @@ use Prim.Native.Nat.{ℕ, _+_, _-_, _/_, _%_, _≤_, _<_}
 use native.Mathlib.Omega.{arith}
 use mathlib.Core.Path.{_≡_, refl, sym, ap, ap₂, _∙_, subst}
 use mathlib.Core.Bool.{Bool, true, false, not, cond, _||_}
-use mathlib.Core.List.{List, [], _∷_, _++_}
+use mathlib.Core.List.{List, _∷_, _++_}
 use lib.ListN.{length, getD, replicate, List·getD-append}
 use lib.Dec.{ltb, eqb}
 use lib.IntN.{ℤ}
@@ -30,10 +30,10 @@ use Rattle.trial.specs.declared.Shape.{Shape}
 use Rattle.trial.proofs.Conditions.{offer-same}
 use Rattle.trial.proofs.LaidOut.{laid-out}
 use Rattle.words.specs.Words.{wordsOf, word, kindOf, unusedOf, kOf, offersOf, differenceOf, countOf}
-use Rattle.trialfile.specs.Layouts.{levelAt, shapeAt, layoutOf, offerAt, figureAt}
+use Rattle.layouts.specs.Layouts.{levelAt, shapeAt, layoutOf, offerAt, figureAt}
 use Rattle.words.specs.Words.{levelIn, shapeIn}
 use Rattle.trialfile.specs.Files.{codeIn, digitsIn, badLength, otherKind, levelPlace, shapePlace, offerPlace, figurePlace, endPlace, bodyPlaces, placeChecks, fileChecks, fileRefusal}
-use Rattle.trialfile.specs.declared.layout.Layout.{Layout}
+use Rattle.layouts.specs.declared.Layout.{Layout}
 use Rattle.words.proofs.Signed.{field-kept}
 use Rattle.words.proofs.Words.{wordsOf-length}
 

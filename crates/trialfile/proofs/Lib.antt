@@ -1,13 +1,6 @@
-pub mod Layouts
 pub mod Judged
 pub mod Arrays
-pub mod Stored
-pub mod FileWords
 pub mod Passed
-pub mod Written
-pub mod RoundTrip
 pub mod Taken
-pub mod Writes
 pub mod Inputs
-pub mod Unused
 pub mod Examples

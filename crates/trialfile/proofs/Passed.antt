@@ -1,46 +1,41 @@
 -- What the words of an accepted file are known to be.
 --   Passed, passed       what holds at each place
---   words-many           how many words there are
 --   contents-read        the contents of their trial
+--   codes-at, digits-at, figures-at     its parts, place by place
 --   trial-accepted       their trial is accepted
 --   trial-lengths        its arrays have their lengths
---   words-again          the trial makes the same words
 --   file-passed          an accepted file has a good length, and its words pass
-use Prim.Native.Nat.{ℕ, _+_, _-_, _*_, _%_, _≤_, _<_}
+use Prim.Native.Nat.{ℕ, _+_, _%_, _<_}
 use native.Mathlib.Omega.{arith}
 use native.Mathlib.Decide.{decLt}
-use mathlib.Core.Path.{_≡_, refl, sym, ap, ap₂, _∙_, subst}
+use mathlib.Core.Path.{_≡_, sym, ap, _∙_, subst}
 use mathlib.Core.Bool.{false, not, _||_}
 use mathlib.Core.List.{List, [], _∷_, _++_}
-use lib.ListN.{length, getD, take, replicate, List·getD-eq-default}
-use lib.Seq.{take-at, ext-getD}
+use lib.ListN.{length, getD, List·getD-eq-default}
 use lib.Dec.{ltb, eqb}
-use lib.IntN.{ℤ, pos}
+use lib.IntN.{pos}
 use borrow.Author.Tests.{ltb-false, eqb-true, not-false}
-use Rattle.limits.specs.Limits.{offersMost, pairsMost, figuresMost, longestFile}
-use Rattle.order.specs.Lists.{tabulate, padded}
+use Rattle.limits.specs.Limits.{offersMost, figuresMost, longestFile}
+use Rattle.order.specs.Lists.{tabulate}
 use Rattle.order.proofs.Lists.{tabulate-length, tabulate-getD, padded-length}
-use Rattle.refusals.specs.Answers.{r3, Checks, placesFrom}
+use Rattle.refusals.specs.Answers.{r3, placesFrom}
 use Rattle.refusals.specs.Limits.{badColumns, badLevel}
 use Rattle.refusals.proofs.Answers.{NoneHolds, none-holds, none-first, none-append, none-join}
 use Rattle.refusals.proofs.Places.{places-each, places-none}
 use Rattle.refusals.proofs.Limits.{or-none, fitting}
-use Rattle.trial.specs.Designs.{designChecks, unitsOf}
-use Rattle.trial.specs.Record.{ArrayLengths, figureCount, Contents, contents, filled}
+use Rattle.trial.specs.Designs.{designChecks}
+use Rattle.trial.specs.Record.{ArrayLengths, figureCount, Contents, contents}
 use Rattle.trial.specs.Refusals.{badDifference, headingChecks, offerChecks, figureChecks, nth, contentChecks, trialChecks, trialRefusal}
 use Rattle.trial.specs.declared.Shape.{Shape}
 use Rattle.trial.proofs.Conditions.{offer-same}
 use Rattle.trial.proofs.LaidOut.{laid-out}
 use Rattle.trial.proofs.Unused.{contents-filled}
-use Rattle.words.specs.Words.{wordsOf, word, kindOf, unusedOf, kOf, offersOf, countOf, offerWord, differenceWord}
-use Rattle.trialfile.specs.Layouts.{levelAt, shapeAt, layoutOf, offerAt, figureAt, wordTotal}
+use Rattle.words.specs.Words.{wordsOf, word, kindOf, unusedOf, countOf}
+use Rattle.layouts.specs.Layouts.{levelAt, shapeAt, layoutOf, wordTotal}
 use Rattle.words.specs.Words.{levelIn, shapeIn}
-use Rattle.trialfile.specs.Files.{codeIn, digitsIn, figureIn, contentsIn, trialOf, badLength, otherKind, levelPlace, shapePlace, offerPlace, figurePlace, endPlace, bodyPlaces, placeChecks, fileChecks, fileRefusal}
-use Rattle.trialfile.specs.Writings.{contentWords, fileWords}
-use Rattle.trialfile.specs.declared.layout.Layout.{Layout}
-use Rattle.words.proofs.Fields.{level-again, shape-again, offer-again, difference-again, end-again}
-use Rattle.trialfile.proofs.Layouts.{count-most, place-cases}
-use Rattle.trialfile.proofs.FileWords.{words-length, word-level, word-shape, word-offer, word-figure, word-end}
+use Rattle.trialfile.specs.Files.{codeIn, digitsIn, figureIn, contentsIn, trialOf, badLength, otherKind, offerPlace, figurePlace, endPlace, bodyPlaces, placeChecks, fileChecks, fileRefusal}
+use Rattle.layouts.specs.declared.Layout.{Layout}
+use Rattle.layouts.proofs.Layouts.{count-most}
 
 pub right-kind : (kind w : ℕ) → otherKind kind w ≡ false → kindOf w ≡ kind
 right-kind kind w h = eqb-true (kindOf w) kind (not-false (eqb (kindOf w) kind) h)
@@ -107,15 +102,15 @@ contents-read ws =
     contents-filled (contentsIn ws) (tabulate-length (s ws .offers) (codeIn ws (l ws))) (tabulate-length (s ws .offers) (digitsIn ws (l ws))) (tabulate-length (figureCount (s ws)) (figureIn ws (l ws)))
 
 module _ (ws : List ℕ) (p : Passed ws) where
-  codes-at : (i : ℕ) → i < s ws .offers → getD (contentsIn ws .setting .codes) i 0 ≡ codeIn ws (l ws) i
+  pub codes-at : (i : ℕ) → i < s ws .offers → getD (contentsIn ws .setting .codes) i 0 ≡ codeIn ws (l ws) i
   unfolding contentsIn
   codes-at i h = tabulate-getD (s ws .offers) (codeIn ws (l ws)) i 0 h
 
-  digits-at : (i : ℕ) → i < s ws .offers → getD (contentsIn ws .setting .digits) i 0 ≡ digitsIn ws (l ws) i
+  pub digits-at : (i : ℕ) → i < s ws .offers → getD (contentsIn ws .setting .digits) i 0 ≡ digitsIn ws (l ws) i
   unfolding contentsIn
   digits-at i h = tabulate-getD (s ws .offers) (digitsIn ws (l ws)) i 0 h
 
-  figures-at : (i : ℕ) → i < figureCount (s ws) → getD (contentsIn ws .figures) i (pos 0) ≡ figureIn ws (l ws) i
+  pub figures-at : (i : ℕ) → i < figureCount (s ws) → getD (contentsIn ws .figures) i (pos 0) ≡ figureIn ws (l ws) i
   unfolding contentsIn
   figures-at i h = tabulate-getD (figureCount (s ws)) (figureIn ws (l ws)) i (pos 0) h
 
@@ -152,20 +147,6 @@ module _ (ws : List ℕ) (p : Passed ws) where
         digits-length = padded-length offersMost 0 (tabulate (s ws .offers) (digitsIn ws (l ws))) (omega (arith, f .columns-most, tabulate-length (s ws .offers) (digitsIn ws (l ws))));
         figures-length = padded-length figuresMost (pos 0) (tabulate (figureCount (s ws)) (figureIn ws (l ws))) (omega (arith, count-most (s ws) (f .columns-most) u, tabulate-length (figureCount (s ws)) (figureIn ws (l ws))));
       }
-
-  word-again : (i : ℕ) → i < wordTotal (s ws) → word (contentWords (contentsIn ws)) i ≡ word ws i
-  unfolding contentsIn
-  word-again =
-      place-cases (s ws) (λ i. word (contentWords (contentsIn ws)) i ≡ word ws i)
-      (word-level (contentsIn ws) ∙ level-again (word ws levelAt) (p .level-stands))
-      (word-shape (contentsIn ws) ∙ shape-again (word ws shapeAt) (p .shape-stands) (p .unused))
-      (λ i h. word-offer (contentsIn ws) i h ∙ ap₂ offerWord (codes-at i h) (digits-at i h) ∙ offer-again (word ws (offerAt (l ws) i)) (right-kind 3 (word ws (offerAt (l ws) i)) (p .offers i h .0)))
-      (λ i h. word-figure (contentsIn ws) i h ∙ ap differenceWord (figures-at i h) ∙ difference-again (word ws (figureAt (l ws) i)) (right-kind 4 (word ws (figureAt (l ws) i)) (p .figures i h .0)))
-      (word-end (contentsIn ws) ∙ end-again (word ws (l ws .end)) (l ws .end) (p .end-stands) (p .counted))
-
-  pub words-again : fileWords (trialOf ws) ≡ ws
-  unfolding fileWords contentsIn
-  words-again = ap contentWords (contents-read ws) ∙ ext-getD 0 (contentWords (contentsIn ws)) ws (words-length (contentsIn ws) ∙ sym (p .many)) (λ i h. word-again i (omega (arith, words-length (contentsIn ws))))
 
 -- ---- the whole file
 

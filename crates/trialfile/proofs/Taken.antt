@@ -1,7 +1,11 @@
 -- Laws for reading: what an accepted file's shape fits into, and the answer.
 --   shape-fits, file-long     the counts of an accepted file's shape, and that its words are there
 --   trial-read       the trial made of its parts
---   refused, taken   the answer
+--   read-refusal     the number that reading answers is the file's refusal
+--   read-taken       reading an accepted file answers 0 and its trial
+--   read-accepted    the trial of an accepted file is accepted
+--   read-lengths     and its arrays have their lengths
+--   refused, taken   the answer, as the code makes it
 use Prim.Native.Nat.{ℕ, _+_, _*_, _≤_}
 use native.Mathlib.Omega.{arith}
 use mathlib.Core.Path.{_≡_, refl, sym, ap, ap₂, _∙_, subst}
@@ -10,21 +14,24 @@ use lib.ListN.{length}
 use lib.IntN.{ℤ, pos}
 use Rattle.limits.specs.Limits.{offersMost, pairsMost, figuresMost}
 use Rattle.order.specs.Lists.{tabulate, padded}
+use Rattle.refusals.specs.Answers.{firstRefusal}
+use Rattle.refusals.proofs.Answers.{answer-map}
 use Rattle.refusals.proofs.Limits.{fitting}
 use Rattle.trial.specs.Designs.{unitsOf}
-use Rattle.trial.specs.Record.{figureCount, blank}
+use Rattle.trial.specs.Record.{ArrayLengths, figureCount, blank}
+use Rattle.trial.specs.Refusals.{trialRefusal}
 use Rattle.trial.specs.declared.Level.{Level}
 use Rattle.trial.specs.declared.Shape.{Shape}
 use Rattle.trial.specs.declared.Trial.{Trial}
 use Rattle.trial.proofs.LaidOut.{laid-out}
 use Rattle.words.specs.Words.{wordsOf, word}
-use Rattle.trialfile.specs.Layouts.{levelAt, shapeAt, layoutOf}
+use Rattle.layouts.specs.Layouts.{levelAt, shapeAt, layoutOf}
 use Rattle.words.specs.Words.{levelIn, shapeIn}
 use Rattle.trialfile.specs.Files.{codeIn, digitsIn, figureIn, contentsIn, trialOf, fileChecks, fileRefusal, readingOf}
-use Rattle.trialfile.specs.declared.layout.Layout.{Layout}
+use Rattle.trialfile.specs.declared.Reading.{Reading}
+use Rattle.layouts.specs.declared.Layout.{Layout}
 use Rattle.words.proofs.Words.{wordsOf-length}
-use Rattle.trialfile.proofs.Passed.{file-passed}
-use Rattle.trialfile.proofs.RoundTrip.{read-taken}
+use Rattle.trialfile.proofs.Passed.{trial-accepted, trial-lengths, file-passed}
 use Rattle.refusals.proofs.Answers as answers
 
 pub shape-fits : (bs : List ℕ) → fileRefusal bs ≡ 0 → (v : ℕ) (s : Shape) → v ≡ word (wordsOf bs) shapeAt → s ≡ shapeIn v → (s .offers ≤ offersMost) × (unitsOf (s .design) ≤ pairsMost)
@@ -65,6 +72,23 @@ pub trial-read : (ws : List ℕ) (w v n : ℕ) (a : Level) (s : Shape) (l : Layo
     → record { level = a; shape = s; labels = record { codes = cs; digits = ds }; figures = xs } ≡ trialOf ws
 trial-read ws w v n a s l cs ds xs e0 e1 e2 e3 e4 e5 ec ed ex =
     made-by ws n a s l cs ds xs e4 e5 ec ed ex ∙ ap₂ (trialBy ws) (e1 ∙ ap levelIn e0) (e3 ∙ ap shapeIn e2) ∙ sym (trialOf-by ws)
+
+-- the refusal in the answer is the file's
+pub read-refusal : (bytes : List ℕ) → readingOf bytes .refusal ≡ fileRefusal bytes
+unfolding readingOf fileRefusal firstRefusal
+read-refusal bytes = answer-map (λ (r : Reading). r .refusal) (fileChecks bytes) (record { refusal = 0; trial = trialOf (wordsOf bytes) }) (λ n. record { refusal = n; trial = blank })
+
+-- an accepted file's answer is its trial
+pub read-taken : (bytes : List ℕ) → fileRefusal bytes ≡ 0 → readingOf bytes ≡ record { refusal = 0; trial = trialOf (wordsOf bytes) }
+unfolding readingOf fileRefusal
+read-taken bytes h = sym (answers.accepted (record { refusal = 0; trial = trialOf (wordsOf bytes) }) (λ n. record { refusal = n; trial = blank }) (fileChecks bytes) 0 (sym h) refl)
+
+module _ (bytes : List ℕ) (h : fileRefusal bytes ≡ 0) where
+  pub read-accepted : trialRefusal (trialOf (wordsOf bytes)) ≡ 0
+  read-accepted = trial-accepted (wordsOf bytes) (file-passed bytes h .words-good)
+
+  pub read-lengths : ArrayLengths (trialOf (wordsOf bytes))
+  read-lengths = trial-lengths (wordsOf bytes) (file-passed bytes h .words-good)
 
 module _ (bs : List ℕ) (n : ℕ) (t : Trial) (e : n ≡ fileRefusal bs) where
   pub refused : (n ≡ 0 → ⊥) → t ≡ blank → record { refusal = n; trial = t } ≡ readingOf bs

@@ -27,8 +27,8 @@ use Rattle.trial.specs.Refusals.{badDigits, among, badDifference, earlier, offe
 use Rattle.trial.specs.declared.Shape.{Shape}
 use Rattle.trial.specs.declared.Trial.{Trial}
 use Rattle.words.specs.Words.{wordsOf, word, kindOf, levelKind, shapeKind, offerKind, differenceKind, endKind, aOf, bOf, unusedOf, kOf, offersOf, levelIn, shapeIn, digitsOf, codeOf, differenceOf, countOf}
-use Rattle.trialfile.specs.Layouts.{levelAt, shapeAt, layoutOf, offerAt, figureAt}
-use Rattle.trialfile.specs.declared.layout.Layout.{Layout}
+use Rattle.layouts.specs.Layouts.{levelAt, shapeAt, layoutOf, offerAt, figureAt}
+use Rattle.layouts.specs.declared.Layout.{Layout}
 use Rattle.trialfile.specs.declared.Reading.{Reading}
 
 -- ---- the trial

@@ -1,4 +1,2 @@
-pub mod Layouts
 pub mod Files
-pub mod Writings
 pub mod Examples

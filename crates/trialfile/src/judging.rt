@@ -1,7 +1,6 @@
 // What a file is turned away for: at each place, the first condition that holds.
-use super::layout;
 use super::reader;
-use layout::Layout;
+use layouts::Layout;
 use limits::LONGEST_FILE;
 use limits::OFFERS_MOST;
 use trial::Labels;
@@ -73,7 +72,7 @@ fn judge_offers(file: &[u8], l: Layout, n: usize) -> u32
     let labels = reader::read_labels(file, l, n);
     let mut i: usize = 0;
     while i < n {
-        let w = words::word_at(file, l.offers + i * layout::WORDS_PER_OFFER);
+        let w = words::word_at(file, l.offers + i * layouts::WORDS_PER_OFFER);
         let r = judge_offer(w, labels, i);
         if r != 0 {
             return r;
@@ -130,7 +129,7 @@ fn judge_body(file: &[u8], shape: Shape) -> u32
     requires { ⌜ (shape .offers ≤ offersMost) × (unitsOf (shape .design) ≤ pairsMost) ⌝ }
     ensures { λ r. ⌜ r ≡ firstRefusal (bodyPlaces (wordsOf (now (file .entry))) shape) ⌝ }
 {
-    let l = layout::of_shape(shape);
+    let l = layouts::of_shape(shape);
     let o = judge_offers(file, l, shape.offers);
     if o != 0 {
         return o;
@@ -149,11 +148,11 @@ pub(crate) fn judge(file: &[u8]) -> u32
     if bad_length(file) {
         return 1;
     }
-    let l = judge_level(words::word_at(file, layout::LEVEL_AT));
+    let l = judge_level(words::word_at(file, layouts::LEVEL_AT));
     if l != 0 {
         return l;
     }
-    let w = words::word_at(file, layout::SHAPE_AT);
+    let w = words::word_at(file, layouts::SHAPE_AT);
     let s = judge_shape(w);
     if s != 0 {
         return s;

@@ -1,7 +1,5 @@
 // The trial that an accepted file holds, read off by position.
-use super::layout;
-use super::word;
-use layout::Layout;
+use layouts::Layout;
 use limits::FIGURES_MOST;
 use limits::OFFERS_MOST;
 use trial::Design;
@@ -28,7 +26,7 @@ pub(crate) fn read_labels(file: &[u8], l: Layout, n: usize) -> Labels
     let mut digits = [0u8; OFFERS_MOST];
     let mut i: usize = 0;
     while i < n {
-        let w = words::word_at(file, l.offers + i * layout::WORDS_PER_OFFER);
+        let w = words::word_at(file, l.offers + i * layouts::WORDS_PER_OFFER);
         codes[i] = words::code_of(w);
         digits[i] = words::digits_of(w);
         i += 1;
@@ -42,10 +40,10 @@ fn word_here(file: &[u8], i: usize) -> u32
     ensures { λ r. ⌜ r ≡ word (wordsOf (now (file .entry))) i ⌝ }
 {
     let at = 4 * i;
-    let b0 = word::wide(file[at]);
-    let b1 = word::wide(file[at + 1]);
-    let b2 = word::wide(file[at + 2]);
-    let b3 = word::wide(file[at + 3]);
+    let b0 = words::wide(file[at]);
+    let b1 = words::wide(file[at + 1]);
+    let b2 = words::wide(file[at + 2]);
+    let b3 = words::wide(file[at + 3]);
     b0 + 256 * b1 + 65536 * b2 + 16777216 * b3
 }
 
@@ -69,9 +67,9 @@ pub(crate) fn read_trial(file: &[u8]) -> Trial
     requires { ⌜ fileRefusal (now file) ≡ 0 ⌝ }
     ensures { λ r. ⌜ r ≡ trialOf (wordsOf (now (file .entry))) ⌝ }
 {
-    let level = words::level_of(words::word_at(file, layout::LEVEL_AT));
-    let shape = words::shape_of(words::word_at(file, layout::SHAPE_AT));
-    let l = layout::of_shape(shape);
+    let level = words::level_of(words::word_at(file, layouts::LEVEL_AT));
+    let shape = words::shape_of(words::word_at(file, layouts::SHAPE_AT));
+    let l = layouts::of_shape(shape);
     let labels = read_labels(file, l, shape.offers);
     let figures = read_figures(file, l, l.end - l.figures);
     Trial {

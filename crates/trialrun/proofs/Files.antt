@@ -18,7 +18,7 @@ use Rattle.trial.proofs.Calls.{known, total-most, size-is}
 use Rattle.words.specs.Words.{wordsOf}
 use Rattle.trialfile.specs.Files.{trialOf, fileChecks, fileRefusal, readingOf}
 use Rattle.trialfile.specs.declared.Reading.{Reading}
-use Rattle.trialfile.proofs.RoundTrip.{read-accepted, read-refusal}
+use Rattle.trialfile.proofs.Taken.{read-accepted, read-refusal}
 use Rattle.trialrun.specs.TrialRuns.{trialRun, runCallChecks, trialAnswer}
 use Rattle.trialrun.specs.FileRuns.{fileRun}
 use Rattle.trialrun.specs.declared.FileRun.{FileRun}

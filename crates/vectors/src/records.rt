@@ -10,7 +10,7 @@ fn check(t: Trial) {
 }
 
 fn write(t: Trial, file: &mut [u8]) {
-    let w = trialfile::write(t, file);
+    let w = trialwriter::write(t, file);
     pen::written(b"write", w.refusal, w.length, file);
 }
 

@@ -6,7 +6,8 @@ ghost use mathlib.Core.Path.{_≡_};
 ghost use Prim.Native.Nat.{_<_};
 ghost use Rattle.words.specs.Words.{wordsOf, word, kindOf, levelIn, shapeIn, unusedOf, digitsOf, codeOf, differenceOf, countOf};
 
-fn wide(x: u8) -> u32
+// a byte as a u32
+pub fn wide(x: u8) -> u32
     ensures { λ r. ⌜ (r ≡ x) × (r < 256) ⌝ }
 {
     x as u32

@@ -1,7 +1,7 @@
 -- `trialfile::judging::judge_body` meets its contract: offers, figures and end at the places of the layout.
 use mathlib.Core.Path.{sym}
 use native.Mathlib.Omega.{arith}
-use Rattle.trialfile.proofs.Layouts.{count-most, length-most, stands}
+use Rattle.layouts.proofs.Layouts.{count-most, length-most, stands}
 use Rattle.trialfile.proofs.Judged.{body-offers, body-figures, body-end}
 use borrow.Author.Needs.{needs}
 use Rattle.trialfile.proofs.judging.judge_body.Statement.{statement}

@@ -1,6 +1,6 @@
 -- `trialfile::reader::read_trial` meets its contract: the counts of an accepted file fit the arrays, and its parts make its trial.
 use native.Mathlib.Omega.{arith}
-use Rattle.trialfile.proofs.Layouts.{count-most, stands}
+use Rattle.layouts.proofs.Layouts.{count-most, stands}
 use Rattle.trialfile.proofs.Taken.{shape-fits, file-long, trial-read}
 use borrow.Author.Needs.{needs}
 use Rattle.trialfile.proofs.reader.read_trial.Statement.{statement}
