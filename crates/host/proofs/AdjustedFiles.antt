@@ -16,7 +16,7 @@ use Rattle.trial.specs.declared.Trial.{Trial}
 use Rattle.trial.proofs.Accepted.{Accepted}
 use Rattle.words.specs.Words.{wordsOf}
 use Rattle.trialfile.specs.Files.{trialOf, fileChecks, fileRefusal}
-use Rattle.trialfile.proofs.RoundTrip.{read-accepted}
+use Rattle.trialfile.proofs.Taken.{read-accepted}
 use Rattle.trialadjustment.specs.TrialFigures.{trialFigures}
 use Rattle.trialadjustment.specs.FileFigures.{acceptedFile, refusedFile, fileFigures}
 use Rattle.trialadjustment.specs.declared.FileFigures.{FileFigures}
