@@ -159,7 +159,8 @@ def table_adjusted_call(case, room: int, values=None) -> Call:
 
 
 def table_adjusted_calls():
-    """Every table case for adjusted figures, with buffers of no place, too short, exact and longer."""
+    """Every table case for adjusted figures, with buffers of no place, too short, exact and longer;
+    large tables with exact ones."""
     for case in every_case_of("adjusted"):
         needed = min(case.columns, 40)
         rooms = {0, max(needed, 1) - 1, needed, needed + 3} if len(case.values) < 4096 else {needed}

@@ -1,7 +1,7 @@
 """Lent tables for adjusted figures: refusals 4, 9, 10, 11, 12 in that order.
 
-No level is taken: that of a case is no level at all, or in the cases of refusal 3 one that a full
-run refuses, and the call never sees it.
+No level is taken: the call never sees that of a case. Staircases and refused tables have one, those
+of refusal 3 one that a full run refuses; the others have none.
 """
 
 from dataclasses import replace

@@ -4,6 +4,7 @@
 --   needed-falls   with more rejected, a value no smaller needs no more
 --   needed-bound   with k or more rejected it is at most the count by maxima: a row that counts has a column that is left
 --   needed-one     for k = 1 it is the count over what is left: nothing is put back
+--   largest-under  the largest of several counts is at most what each of them is at most
 use Prim.Native.Nat.{ℕ, zero, suc, _+_, _-_, _≤_, _<_, max}
 use native.Mathlib.Omega.{arith}
 use native.Mathlib.Nat.{le-max-left, le-max-right, max-le, max-zero}
@@ -124,8 +125,7 @@ join-meets (a ∷ A) (i ∷ I) (b ∷ B) h = omega (arith, join-meets A I B (ome
     one false true false = omega arith
     one false false b = omega arith
 
--- no count is larger where none is
-largest-under : {A : Type 0} (f : A → ℕ) (m : ℕ) (l : List A) → T (all (λ x. leb (f x) m) l) → largestOf (map f l) ≤ m
+pub largest-under : {A : Type 0} (f : A → ℕ) (m : ℕ) (l : List A) → T (all (λ x. leb (f x) m) l) → largestOf (map f l) ≤ m
 unfolding largestOf all
 largest-under f m [] t = omega arith
 largest-under f m (x ∷ l) t = max-le (leb→le (f x) m (and-left (leb (f x) m) (all (λ x. leb (f x) m) l) t)) (largest-under f m l (and-right (leb (f x) m) (all (λ x. leb (f x) m) l) t))

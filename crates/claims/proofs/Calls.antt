@@ -1,6 +1,6 @@
 -- Every call in the one form of an answer, and the stated orders; what accepted calls hand out beyond the page.
 -- With `every-call` and `refused-unchanged` of Claims.antt each line below says of its call which number comes when, and what the buffers hold.
---   ..-order         the conditions of a call, as document 01 lists them
+--   ..-order         the conditions of a call, as documents 01 and 02 list them
 --   ..-told          the paper's number and values for each case of an answer
 --   ..-number        the number that an answer holds is that of the first condition that holds
 --   ..-accepted      what an accepted call hands out
@@ -45,7 +45,7 @@ use Rattle.trialwriter.specs.declared.Writing.{Writing}
 use Rattle.trialfile.proofs.Taken.{read-refusal}
 use Rattle.trialrun.specs.TrialRuns.{trialRun, runCallChecks, runCallRefusal, trialAnswer}
 use Rattle.trialrun.specs.FileRuns.{fileRun}
-use Rattle.trialadjustment.specs.TrialFigures.{trialFigures}
+use Rattle.trialadjustment.specs.TrialFigures.{trialFigures, trialFiguresAnswer}
 use Rattle.host.specs.Calls.{stepBytes, fileOffers, trialVerdictsChecks, trialVerdictsRefusal, trialVerdictsAnswer, trialVerdictsBuffer, tableVerdictsChecks, tableVerdictsRefusal, tableVerdictsAnswer, tableVerdictsBuffer}
 use Rattle.host.specs.AdjustedCalls.{tableAdjustedChecks, tableAdjustedRefusal, tableAdjustedAnswer, tableAdjustedWork, tableAdjustedBuffer, trialAdjustedChecks, trialAdjustedRefusal, trialAdjustedAnswer, trialAdjustedBuffer, trialAdjustedRows}
 use Rattle.view.specs.Entries.{entryOf, held}
@@ -152,6 +152,10 @@ figures-number t rows columns k observed places = answer-map (λ (f : Adjusted).
 pub trial-number : (t : Trial) (places work : ℕ) → trialAnswer t places work .refusal ≡ runCallRefusal t places work
 unfolding trialAnswer runCallRefusal acceptedRun
 trial-number t places work = answer-map (λ (f : FullRun). f .refusal) (runCallChecks t places work) (acceptedRun (trialRun t)) refusedRun
+
+pub trial-figures-number : (t : Trial) (places work : ℕ) → trialFiguresAnswer t places work .refusal ≡ runCallRefusal t places work
+unfolding trialFiguresAnswer runCallRefusal
+trial-figures-number t places work = answer-map (λ (f : Adjusted). f .refusal) (runCallChecks t places work) (acceptedFigures (rowTotal t) (trialFigures t)) refusedFigures
 
 pub read-number : (bytes : List ℕ) → readingOf bytes .refusal ≡ fileRefusal bytes
 read-number = read-refusal

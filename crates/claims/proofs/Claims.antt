@@ -1,7 +1,7 @@
--- The promises of the whole, on one page: the three demands of document 01, each theorem from the parts in a line or two.
+-- The promises of the whole, on one page: the three demands of document 01, then the requests of document 02; each theorem from the parts in a line or two.
 -- A contract says that a public function answers what a definition gives, for every input; the theorems are about those definitions.
 -- Every call is `answer checks accepted refused`, and every lent buffer `afterwards checks new old` (refusals/specs/Answers.antt): Calls.antt
--- beside this page lists them, with the stated orders. docs/CLAIMS.md maps every sentence of document 01 to what keeps it.
+-- beside this page lists them, with the stated orders. docs/CLAIMS.md maps every sentence of document 01, and of the requests, to what keeps it.
 use Prim.Native.Nat.{ℕ, _*_, _≤_, _<_}
 use mathlib.Core.Path.{_≡_, refl, _∙_}
 use mathlib.Core.Bool.{Bool, true}
@@ -38,7 +38,7 @@ use Rattle.adjustment.proofs.Tables as figures
 use Rattle.adjustment.proofs.Examples as figure-examples
 use Rattle.trial.specs.Designs.{entryOf}
 use Rattle.trial.specs.Record.{ArrayLengths, trimmed, Same, Keeps}
-use Rattle.trial.specs.Exchange.{byOffer, rowOf, rowTotal}
+use Rattle.trial.specs.Exchange.{byOffer, rowOf, rowTotal, tableOf}
 use Rattle.trial.specs.Refusals.{trialRefusal}
 use Rattle.trial.specs.declared.Trial.{Trial}
 use Rattle.trial.proofs.Unused.{same-trimmed}
@@ -48,6 +48,7 @@ use Rattle.trialfile.specs.Files.{fileChecks, trialOf, fileRefusal, readingOf}
 use Rattle.trialwriter.specs.Writings.{fileLength, writingOf, afterWriting}
 use Rattle.trialrun.specs.TrialRuns.{trialRun, runCallChecks, runCallRefusal, trialAnswer}
 use Rattle.trialadjustment.specs.TrialFigures.{rejectedOf, trialFigures, trialFiguresAnswer}
+use Rattle.trialadjustment.proofs.Calls.{table-passes}
 use Rattle.trialadjustment.proofs.Trials as trialfigures
 use Rattle.control.proofs.Answered.{tables-answered, trials-answered}
 use Rattle.text.specs.Text.{cents, refusedText}
@@ -203,6 +204,10 @@ module _ (t : Trial) where
   unfolding trialFiguresAnswer runCallRefusal
   trial-figures places work h = answered (runCallChecks t places work) _ refusedFigures .gives h
 
+  pub trial-by-one-pass : trialRefusal t ≡ 0 → kMaxPass (t .shape .k) (rowsOf (rowTotal t) (t .shape .offers) (tableOf t)) (everyColumn (t .shape .offers)) 0 ≡ trialFigures t
+  unfolding trialFigures
+  trial-by-one-pass ok = by-one-pass (tableOf t) (rowTotal t) (t .shape .offers) (t .shape .k) 0 (table-passes t ok)
+
   module _ (ok : trialRefusal t ≡ 0) (i : ℕ) (h : i < t .shape .offers) where
     pub trial-drops-nobody : (e e′ : ℕ) → e ≤ e′ → e′ < rowTotal t → T (rejectedOf t e i) → T (rejectedOf t e′ i)
     trial-drops-nobody = trialfigures.trial-stays t ok i h
@@ -212,6 +217,10 @@ module _ (t : Trial) where
 
     pub trial-on-the-list : (getD (trialFigures t) i 0 ≤ allowance (rowTotal t) (t .level .a) (t .level .b)) ↔ T (isRejected (getD (trialRun t .verdicts) i (Kept plusZero)))
     trial-on-the-list = trialfigures.trial-law t ok i h
+
+-- the level has no part in the figures: a sheet serves every level at which the same offers and figures are judged
+pub one-sheet : (t u : Trial) → t .shape ≡ u .shape → byOffer t ≡ byOffer u → trialFigures t ≡ trialFigures u
+one-sheet = trialfigures.level-aside
 
 -- what the program for the sheet prints, of an input that it read into such a buffer, is the sheet of the whole input: the figures of its trial, or its refusal
 pub sheet-program : (whole buffer text : List ℕ) (n : ℕ) → inputRoom ≤ length buffer → longestSheet ≤ length text → Gives whole buffer n

@@ -1,5 +1,6 @@
 -- The m-th smallest by narrowing an open interval.
 --   low, high             a bound that may be an infinity
+--   all-below             every finite value is smaller than infinity
 --   Around                what holds of the bounds: around-start, and around-low, around-high after a turn
 --   fewer-low, fewer-high       a value from inside as a new bound leaves fewer values inside
 --   smallest-found        with no value left inside, the upper bound is the m-th smallest
@@ -71,7 +72,7 @@ low-not (inf false) x t f = absurd t
 low-not (fin s m e) x t f = atMost-not x (fin s m e) f t
 
 -- every finite value is smaller than infinity
-all-below : (x : Float) → T (finite x) → smaller x (inf false) ≡ true
+pub all-below : (x : Float) → T (finite x) → smaller x (inf false) ≡ true
 unfolding finite lt
 all-below nan f = absurd f
 all-below (inf s) f = absurd f

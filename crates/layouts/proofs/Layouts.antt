@@ -1,5 +1,4 @@
 -- Laws of the layout of a file.
---   figures-between        the figures stand between their place and the end
 --   count-most, words-most, length-most, length-is     how far an accepted shape goes: to the longest file
 --   layout-made, Stands, stands     a layout as the code makes it; where its parts stand, as numbers
 --   place-cases            a place of a file is that of the level, the shape, an offer, a figure or the end
@@ -14,10 +13,6 @@ use Rattle.trial.specs.Record.{figureCount}
 use Rattle.trial.specs.declared.Shape.{Shape}
 use Rattle.layouts.specs.Layouts.{levelAt, shapeAt, layoutOf, offerAt, figureAt, wordTotal}
 use Rattle.layouts.specs.declared.Layout.{Layout}
-
-pub figures-between : (s : Shape) → layoutOf s .end ≡ layoutOf s .figures + figureCount s
-unfolding layoutOf
-figures-between s = omega arith
 
 -- an accepted shape
 module _ (s : Shape) (offers : s .offers ≤ offersMost) (units : unitsOf (s .design) ≤ pairsMost) where

@@ -2,7 +2,6 @@
 --   marks-counted      how many rows have k columns of K that pass the test
 --   holding-columns    a set as a mask, and as a Bool for each column
 --   holding-fewer      with up to j columns more, at most as many rows hold k as now hold k - j
---   holding-length     at most all
 use Prim.Native.Nat.{ℕ, _+_, _-_, _^_, _≤_, _<_}
 use native.Mathlib.Omega.{arith}
 use mathlib.Core.Path.{_≡_, refl, sym, ap, ap₂, _∙_}
@@ -13,7 +12,7 @@ use lib.Dec.{T, leb, leb→le, le→leb}
 use lib.Ieee.{Float}
 use Rattle.order.specs.Counting.{bit, count, all}
 use Rattle.order.proofs.Booleans.{and-left, and-right, T-false, never}
-use Rattle.order.proofs.Counts.{count-le-all, count-same-all, count-length}
+use Rattle.order.proofs.Counts.{count-le-all, count-same-all}
 use Rattle.order.proofs.Rows.{Sound, soundRow, sound-length}
 use Rattle.columns.specs.Columns.{Columns, size, _∩_, _∪_, columnsOf}
 use Rattle.columns.proofs.Sets.{length-∪}
@@ -96,7 +95,3 @@ holding-fewer k j K I ms e h = count-le-all (λ m. leb k (size (columnsOf (lengt
       ap (λ (i : ℕ). size (columnsOf i m ∩ (K ∪ I))) (length-∪ K I (sym e)),
       meet-join (columnsOf (length K) m) K I e,
     ))
-
-pub holding-length : (k s : ℕ) (ms : List ℕ) → holding k s ms ≤ length ms
-unfolding holding
-holding-length k s ms = count-length (holds k s) ms

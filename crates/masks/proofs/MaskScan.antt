@@ -1,6 +1,8 @@
 -- Sets of columns bit by bit: what a scan from column 0 on has seen, and what is still to come.
---   size-in, size-past, size-done     a count of the columns
---   above-in, above-past, above-done     a mask of the columns whose value is above v
+--   size-start, size-in, size-past, size-done     a count of the columns
+--   aboveFrom, above-start, above-in, above-past, above-done     a mask of the columns whose value is above v
+--   above-fits, above-room, above-keep     that mask stays below the bit of the next column, and within 32
+--   full-32     the mask of 32 columns
 use Prim.Native.Nat.{ℕ, suc, _+_, _-_, _*_, _/_, _%_, _^_, _≤_, _<_}
 use native.Mathlib.Omega.{arith}
 use native.Mathlib.Numerals.{add-one}

@@ -5,6 +5,7 @@
 --   step-in, step-out     what a step rejects lies above its critical value, and what it leaves does not
 --   grown-by              what holds of R's columns and of those that the step rejects holds of both
 --   Before, Ended         what holds before each step, and at the end: no column that is left lies above the critical value of a further step
+--   row-sound             the observed row is one of the table's
 --   at-keeps, at-ends     a fact that each step keeps holds of what is rejected in the end; and the run has ended there
 use Prim.Native.Nat.{ℕ, zero, suc, _+_, _≤_, _<_}
 use native.Mathlib.Omega.{arith}

@@ -1,7 +1,7 @@
 -- The text of the buyers' sheet (document 02, §1). Definitions only.
 --   sheetLine code digits n   an offer: printed code and figure
 --   sheetLineAt l a i         the line of offer i, from 0
---   sheetText t a             the sheet of a trial with the figures a: a line for each offer in file order, then the rows
+--   sheetText t a             the sheet of a trial with the figures a: a line for each offer in file order, then `end` and the number of rows
 --   sheetOf bytes             all that is printed for a file: the sheet of its trial, or its refusal
 use Prim.Native.Nat.{ℕ}
 use mathlib.Core.List.{List, [], _∷_, _++_}

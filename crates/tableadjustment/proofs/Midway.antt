@@ -14,7 +14,7 @@ use mathlib.Core.List.{List, [], _∷_, _++_, map}
 use lib.ListN.{length, getD, take, drop, set, replicate, length-set, length-replicate, take-append-drop}
 use lib.Seq.{take-at, drop-at, drop-drop, getD-take, getD-drop, take-set-lt, drop-set-lt, length-take-le}
 use lib.Dec.{T, ltb}
-use lib.Ieee.{Float, nan, inf, fin, lt}
+use lib.Ieee.{Float, nan, inf}
 use borrow.Author.Tests.{ltb-false}
 use Rattle.order.specs.Order.{finite, smaller}
 use Rattle.order.specs.Counting.{all}
@@ -30,6 +30,7 @@ use Rattle.columns.proofs.Masks.{columnsOf-length}
 use Rattle.columns.proofs.Remaining.{left-all}
 use Rattle.masks.specs.Internal.{CheckedTable}
 use Rattle.masks.proofs.Parts.{part-length, part-row}
+use Rattle.critical.proofs.Selection.{all-below}
 use Rattle.adjustment.specs.Passes.{topColumn, needed, kMaxFrom, kMaxPass}
 use Rattle.tableadjustment.specs.Internal.{Passable, Raising, orderFrom, rowsHit}
 use Rattle.adjustment.proofs.Needed.{needed-falls}
@@ -54,13 +55,6 @@ none-passed : (n s : ℕ) → columnsOf n 0 ≡ map (λ _. false) (columnsOf n s
 unfolding columnsOf
 none-passed zero s = refl
 none-passed (suc n) s = ap (λ (K : Columns). false ∷ K) (none-passed n (s / 2))
-
--- every finite value is smaller than infinity
-all-below : (x : Float) → T (finite x) → smaller x (inf false) ≡ true
-unfolding finite lt
-all-below nan f = absurd f
-all-below (inf s) f = absurd f
-all-below (fin s m e) f = refl
 
 module _ {t : List Float} {rows columns k observed live : ℕ} (r : Passable t rows columns k observed live) where
   pub order-part : live < 2 ^ length (take (observed * columns + columns - observed * columns) (drop (observed * columns) t))

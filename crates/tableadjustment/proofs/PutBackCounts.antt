@@ -1,6 +1,8 @@
 -- The count that a value needs, by marks: the walk over the sets that are put back, and what it gives.
 --   walk-none, walk-skip      nothing left to choose from; a column that is not passed
 --   walk-pruned, walk-leaf, walk-in    a column that is chosen: too few rows bear it out; it was the last to choose; or more are chosen after it
+--   walked, odd-one           the best count after the walk; a bit that is not clear is set
+--   passed-within, remaining-fits, first-walk   what the walk starts from: the columns that are not passed
 --   needed-few, needed-bounded, needed-walk     the cases of `needed`
 use Prim.Native.Nat.{ℕ, zero, suc, _+_, _-_, _/_, _%_, _^_, _≤_, _<_, max}
 use native.Mathlib.Omega.{arith}
@@ -8,10 +10,9 @@ use mathlib.Core.Path.{_≡_, refl, sym, ap, _∙_, subst}
 use mathlib.Core.Bool.{Bool, true, false, not, cond, _&&_}
 use mathlib.Core.List.{List, [], _∷_, _++_, map}
 use lib.ListN.{set, replicate, length-append, length-replicate}
-use lib.Dec.{T, leb, leb→le, le→leb}
+use lib.Dec.{T, leb, le→leb}
 use borrow.Author.Tests.{lt-ltb, le-ltb}
-use Rattle.order.specs.Counting.{count, all}
-use Rattle.order.proofs.Booleans.{and-left, and-right}
+use Rattle.order.specs.Counting.{count}
 use Rattle.columns.specs.Columns.{Columns, size, _∪_, _∖_, choose, columnsOf}
 use Rattle.columns.proofs.Sets.{has, _⊆_, ⊆-by, ⊆-length, has-∖}
 use Rattle.columns.proofs.Masks.{columnsOf-length, columnsOf-minus, minus-fits}
@@ -21,6 +22,7 @@ use Rattle.masks.specs.Marks.{holding, holdingColumns}
 use Rattle.masks.proofs.Marks.{holding-columns, holding-fewer}
 use Rattle.masks.proofs.Walks.{valuesFrom, values-leaf, values-none, values-past, values-in, values-all}
 use Rattle.adjustment.specs.Passes.{largestOf}
+use Rattle.adjustment.proofs.Needed.{largest-under}
 use Rattle.tableadjustment.specs.Internal.{Countable, neededIn}
 
 -- ---- the largest of several counts
@@ -29,11 +31,6 @@ largest-append : (xs ys : List ℕ) → largestOf (xs ++ ys) ≡ max (largestOf 
 unfolding largestOf
 largest-append [] ys = omega arith
 largest-append (x ∷ xs) ys = omega (arith, largest-append xs ys)
-
-largest-under : {A : Type 0} (f : A → ℕ) (c : ℕ) (l : List A) → T (all (λ x. leb (f x) c) l) → largestOf (map f l) ≤ c
-unfolding largestOf all
-largest-under f c [] t = omega arith
-largest-under f c (x ∷ l) t = omega (arith, leb→le (f x) c (and-left (leb (f x) c) (all (λ x. leb (f x) c) l) t), largest-under f c l (and-right (leb (f x) c) (all (λ x. leb (f x) c) l) t))
 
 pub odd-one : (n : ℕ) → (n % 2 ≡ 0 → ⊥) → n % 2 ≡ 1
 odd-one n f = omega (arith, f)

@@ -90,7 +90,7 @@ fn down(
     figures
 }
 
-// The figures of all columns, where those of `live` take part.
+// The figures of all columns, where those of `live` take part. A table's columns are all live, and k of them or more: only a set that leaves some aside can be smaller.
 pub(crate) fn all_figures(
     table: &[f64],
     rows: usize,

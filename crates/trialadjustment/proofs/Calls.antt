@@ -1,7 +1,6 @@
 -- The call for the figures of a trial: its table is accepted, so the answer is that of the call for the table's figures.
 --   table-passes, call-passes       the table of an accepted trial passes the checks of a table whose figures are asked for, with a work buffer that is long enough too
 --   table-figured, table-cleared    what is answered for that table, and the work buffer after it
---   trial-figures-answered          an accepted trial with buffers that are long enough is answered by its figures
 --   figures-done, work-done         what the code asks of the table in its buffer is the answer for the trial
 use Prim.Native.Nat.{ℕ, _*_, _≤_}
 use native.Mathlib.Omega.{arith}
@@ -21,9 +20,9 @@ use Rattle.trial.specs.Refusals.{trialRefusal}
 use Rattle.trial.specs.Lent.{sizeOf, tableBuffer}
 use Rattle.trial.specs.declared.Trial.{Trial}
 use Rattle.trial.specs.declared.TableSize.{TableSize}
-use Rattle.trial.proofs.Calls.{known, size-is, sized}
+use Rattle.trial.proofs.Calls.{known, sized}
 use Rattle.trialrun.specs.TrialRuns.{runWork}
-use Rattle.trialrun.proofs.Runs.{table-accepted, run-free, call-done}
+use Rattle.trialrun.proofs.Runs.{table-accepted, call-done}
 use Rattle.trialadjustment.specs.TrialFigures.{trialFigures, trialFiguresAnswer}
 
 module _ (t : Trial) (ok : trialRefusal t ≡ 0) where
@@ -48,11 +47,6 @@ module _ (t : Trial) (ok : trialRefusal t ≡ 0) where
   pub table-cleared : (work : List Float) → rowTotal t ≤ length work → figuresWork (tableOf t) (rowTotal t) (t .shape .offers) (t .shape .k) 0 work ≡ cleared (rowTotal t) work
   unfolding figuresWork adjustmentCallRefusal
   table-cleared work h = sym (accepted (cleared (rowTotal t) work) (λ _. work) (checks (length work)) 0 (sym (call-passes (length work) h)) refl)
-
-  pub trial-figures-answered : (places work : ℕ) → rowTotal t * t .shape .offers ≤ places → rowTotal t ≤ work → trialFiguresAnswer t places work ≡ acceptedFigures (rowTotal t) (trialFigures t)
-  unfolding trialFiguresAnswer
-  trial-figures-answered places work h l =
-      sym (run-free t (record { refusal = 0; rows = rowTotal t; columns = t .shape .offers }) (size-is t 0 (sym ok) refl) (acceptedFigures (rowTotal t) (trialFigures t)) refusedFigures places work refl h l)
 
 module _ (t : Trial) (s : TableSize) (q : s ≡ sizeOf t) (z : s .refusal ≡ 0) (table : List Float) (h : s .rows * s .columns ≤ length table) (w : List Float) (e : w ≡ tableBuffer t table) (work : List Float) (l : s .rows ≤ length work) where
   ok : trialRefusal t ≡ 0

@@ -1,6 +1,6 @@
 -- The adjusted figures of a trial with lent buffers. Definitions only.
 --   rejectedOf t e i     the method at e rejects offer i (from 0): on the trial's table, with row 0 observed and its own k
---   trialFigures t       those of its table, with row 0 observed and its own k
+--   trialFigures t       the adjusted figures of its offers: those of its table's columns, with row 0 observed and its own k
 --   trialFiguresAnswer t places work     what the call answers, with a table buffer and a work buffer of so many places; it is refused as a full run is
 -- What the lent buffers hold afterwards is as for a full run: `runTable`, `runWork` (trialrun/specs/TrialRuns.antt).
 use Prim.Native.Nat.{ℕ}
