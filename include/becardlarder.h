@@ -1,6 +1,6 @@
 /*
  * Becardlarder for hosts written in C: which offers are rejected, by an exact randomization test with the stepdown method,
- * and the adjusted figure of each offer: the least allowance at which it would be.
+ * and the adjusted figure of each offer: the least allowance at which it would be rejected.
  *
  * Link with libhost.a and the C library, on x86-64 Linux. The functions are proved to return, to read and write nothing
  * but what is said here, and to answer what their definitions give. In return each pointer has to reach as many places
@@ -92,7 +92,7 @@ uint32_t becardlarder_table_verdicts(const double *table, size_t table_len, size
  *
  * Returns 0. figures[i] is then the figure of offer i (in file order, from 0), and *rows is M; places beyond the offers
  * are unchanged. `figures` needs a place for each offer: BECARDLARDER_MOST_OFFERS places are always enough. `rows` points
- * to one place.
+ * to one place, also where the call is refused, and is never null.
  *
  * Refusals: those of becardlarder_trial_verdicts, in the same order; the trial's level is checked, and has no part in the
  * figures. Where the call is refused `figures` and *rows are unchanged.

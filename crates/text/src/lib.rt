@@ -59,7 +59,7 @@ fn put_up_to(out: &mut [u8], at: usize, n: usize, most: usize) -> usize
     put_digit(out, next, n % 10)
 }
 
-pub fn put_decimal(out: &mut [u8], at: usize, n: usize) -> usize
+fn put_decimal(out: &mut [u8], at: usize, n: usize) -> usize
     requires { ⌜ at + 20 ≤ length (now out) ⌝ }
     ensures { λ r. ⌜ Wrote (now (out .entry)) (now (out .exit)) at r (decimal n) × (r ≤ at + 20) ⌝ }
 {
