@@ -161,15 +161,24 @@ static long peak(size_t i, const char *which)
     return peaks[n / 2];
 }
 
+static const char *asked_by(const struct task *task)
+{
+    return task->kind == RUN                                 ? "run"
+           : task->kind == ADJUSTED || task->kind == MAXIMA ? "figures"
+                                                             : "file";
+}
+
 static void print_memory(void)
 {
     puts("\nMemory: peak of a process with the input alone and with one call, in KiB; stack of the call, in bytes\n");
-    printf("| %-33s | k | input alone | with C | with library | C stack | library stack |\n", "input");
-    puts("|-----------------------------------|---|-------------|--------|--------------|---------|---------------|");
+    printf("| call    | %-33s | k | input alone | with C | with library | C stack | library stack |\n", "input");
+    puts("|---------|-----------------------------------|---"
+         "|-------------|--------|--------------|---------|---------------|");
     for (size_t i = 0; i < TASKS; i++)
         if (!tasks[i].grows)
-            printf("| %-33s | %zu | %11ld | %6ld | %12ld | %7zu | %13zu |\n", tasks[i].name, tasks[i].recipe.k,
-                   peak(i, "2"), peak(i, "0"), peak(i, "1"), facts[i].stack[BASELINE], facts[i].stack[LIBRARY]);
+            printf("| %-7s | %-33s | %zu | %11ld | %6ld | %12ld | %7zu | %13zu |\n", asked_by(&tasks[i]), tasks[i].name,
+                   tasks[i].recipe.k, peak(i, "2"), peak(i, "0"), peak(i, "1"), facts[i].stack[BASELINE],
+                   facts[i].stack[LIBRARY]);
 }
 
 int main(int argc, char **argv)
