@@ -245,6 +245,8 @@ static struct facts compare_adjusted(const struct task *task, const struct table
     same(run_table(t, &run), task, "the baseline refuses the table");
     for (size_t j = 0; j < t->columns; j++)
         same((figures[j] <= allowance(t->rows, t->a, t->b)) == (run.step[j] != 0), task, "figures of another method");
+    for (size_t j = 1; task->recipe.pattern == SLOPE && t->k == 4 && j < t->columns; j++)
+        same(figures[j - 1] < figures[j], task, "not a slope");
     return (struct facts){0};
 }
 
