@@ -11,7 +11,7 @@ use native.Mathlib.Nat.{le-max-left, le-max-right, max-le, max-zero}
 use native.Mathlib.Decide.{decLe}
 use mathlib.Core.Path.{_≡_, refl, sym, ap, _∙_}
 use mathlib.Core.Logic.{_↔_}
-use mathlib.Core.Bool.{Bool, true, false, cond, _&&_, _||_}
+use mathlib.Core.Bool.{Bool, true, false, cond}
 use mathlib.Core.List.{List, [], _∷_, map}
 use lib.ListN.{length, length-map}
 use lib.Dec.{ltb, leb, T, ltb→lt, lt→ltb, leb→le, le→leb}
@@ -27,7 +27,7 @@ use Rattle.select.specs.Rank.{kthLargest}
 use Rattle.select.proofs.Ranks.{kthLargest-law}
 use Rattle.columns.specs.Columns.{Columns, size, _∪_, _∩_, _∖_, choose, reached}
 use Rattle.columns.proofs.Sets.{_⊆_, ⊆-length, length-∪, length-∖, empty-size}
-use Rattle.columns.proofs.PutBack.{choose-some, choose-sound, size-put}
+use Rattle.columns.proofs.PutBack.{choose-some, choose-sound, size-put, join-meets}
 use Rattle.columns.proofs.Remaining.{left-none, nothing-new}
 use Rattle.method.specs.Method.{criticalValue, putBack, reaching}
 use Rattle.method.proofs.Critical.{sets-finite}
@@ -110,20 +110,6 @@ needed-falls k X live R R′ v x sound pos held sub inside left f g le = go (nee
           criticalAt-falls k e e X live sound pos held (omega arith) rare R R′ sub inside left,
         ) in
         omega (arith, needed-law (length live) k e X v sound pos rare f live R .0 low)
-
--- a set with some columns more
-join-meets : (A I B : Columns) → length A ≡ length I → size ((A ∪ I) ∩ B) ≤ size (A ∩ B) + size I
-unfolding _∪_ _∩_ size count
-join-meets [] I B h = omega arith
-join-meets (a ∷ A) [] B h = absurd (omega arith)
-join-meets (a ∷ A) (i ∷ I) [] h = omega arith
-join-meets (a ∷ A) (i ∷ I) (b ∷ B) h = omega (arith, join-meets A I B (omega arith), one a i b)
-  where
-    one : (a i b : Bool) → bit ((a || i) && b) ≤ bit (a && b) + bit i
-    one true i b = omega arith
-    one false true true = omega arith
-    one false true false = omega arith
-    one false false b = omega arith
 
 pub largest-under : {A : Type 0} (f : A → ℕ) (m : ℕ) (l : List A) → T (all (λ x. leb (f x) m) l) → largestOf (map f l) ≤ m
 unfolding largestOf all

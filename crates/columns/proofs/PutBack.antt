@@ -4,6 +4,7 @@
 --   choose-some       there is a set of j columns of R
 --   choose-sound      each set of `choose j R` has j columns, all of R
 --   size-put, put-in, put-meets     what is left with columns of R put back: its size, that it is live, and what it shares with a smaller set
+--   meet-size, join-meets           what a set shares with another is no larger than that one; with some columns more it shares at most as many more
 --   put-lacks, lacks-none           what it lacks of a set of live columns
 use Prim.Native.Nat.{ℕ, zero, suc, _+_, _≤_, _<_}
 use native.Mathlib.Omega.{arith}
@@ -137,6 +138,19 @@ unfolding size count _∩_ zipWith
 meet-size [] R = omega arith
 meet-size (a ∷ live) [] = omega arith
 meet-size (a ∷ live) (r ∷ R) = omega (arith, bit-le (a && r) r (and-right a r), meet-size live R)
+
+pub join-meets : (A I B : Columns) → length A ≡ length I → size ((A ∪ I) ∩ B) ≤ size (A ∩ B) + size I
+unfolding _∪_ _∩_ size count
+join-meets [] I B h = omega arith
+join-meets (a ∷ A) [] B h = absurd (omega arith)
+join-meets (a ∷ A) (i ∷ I) [] h = omega arith
+join-meets (a ∷ A) (i ∷ I) (b ∷ B) h = omega (arith, join-meets A I B (omega arith), one a i b)
+  where
+    one : (a i b : Bool) → bit ((a || i) && b) ≤ bit (a && b) + bit i
+    one true i b = omega arith
+    one false true true = omega arith
+    one false true false = omega arith
+    one false false b = omega arith
 
 -- what the columns left, with I put back, lack of K′: the rejected columns of K′ that I lacks
 pub put-lacks : (live K′ R I : Columns) → K′ ⊆ live → length R ≡ length live → length I ≡ length live → size (K′ ∖ ((live ∖ R) ∪ I)) ≤ size ((K′ ∩ R) ∖ I)

@@ -5,7 +5,7 @@
 use Prim.Native.Nat.{ℕ, _+_, _-_, _^_, _≤_, _<_}
 use native.Mathlib.Omega.{arith}
 use mathlib.Core.Path.{_≡_, refl, sym, ap, ap₂, _∙_}
-use mathlib.Core.Bool.{Bool, true, false, cond, _&&_, _||_}
+use mathlib.Core.Bool.{Bool, true, false, cond, _&&_}
 use mathlib.Core.List.{List, [], _∷_, map, zipWith}
 use lib.ListN.{length, length-map}
 use lib.Dec.{T, leb, leb→le, le→leb}
@@ -17,7 +17,7 @@ use Rattle.order.proofs.Rows.{Sound, soundRow, sound-length}
 use Rattle.columns.specs.Columns.{Columns, size, _∩_, _∪_, columnsOf}
 use Rattle.columns.proofs.Sets.{length-∪}
 use Rattle.columns.proofs.Masks.{columnsOf-length, columnsOf-maskOf}
-use Rattle.columns.proofs.PutBack.{meet-size}
+use Rattle.columns.proofs.PutBack.{meet-size, join-meets}
 use Rattle.masks.specs.Marks.{markOf, holds, holding, those, marksOf, holdingColumns}
 use Rattle.masks.proofs.SetSizes.{size-mask, and-size}
 
@@ -71,19 +71,6 @@ unfolding holding holdingColumns
 holding-columns n k s ms h l = count-same-all (holds k s) (λ m. leb k (size (columnsOf (length (columnsOf n s)) m ∩ columnsOf n s))) ms
     (λ m. ap (leb k) (and-size 32 n m s h l ∙ ap (λ (i : ℕ). size (columnsOf i m ∩ columnsOf n s)) (sym (columnsOf-length n s))))
 
--- what K with I has of a set, K has or I
-meet-join : (M K I : Columns) → length I ≡ length K → size (M ∩ (K ∪ I)) ≤ size (M ∩ K) + size I
-unfolding size count _∩_ _∪_ zipWith
-meet-join [] K I h = omega arith
-meet-join (a ∷ M) [] I h = omega arith
-meet-join (a ∷ M) (b ∷ K) [] h = absurd (omega arith)
-meet-join (a ∷ M) (b ∷ K) (c ∷ I) h = omega (arith, one a b c, meet-join M K I (omega arith))
-  where
-    one : (a b c : Bool) → bit (a && (b || c)) ≤ bit (a && b) + bit c
-    one true true c = omega arith
-    one true false c = omega arith
-    one false b c = omega arith
-
 pub holding-fewer : (k j : ℕ) (K I : Columns) (ms : List ℕ) → length I ≡ length K → size I ≤ j → holdingColumns k (K ∪ I) ms ≤ holdingColumns (k - j) K ms
 unfolding holdingColumns
 holding-fewer k j K I ms e h = count-le-all (λ m. leb k (size (columnsOf (length (K ∪ I)) m ∩ (K ∪ I)))) (λ m. leb (k - j) (size (columnsOf (length K) m ∩ K))) ms more
@@ -93,5 +80,7 @@ holding-fewer k j K I ms e h = count-le-all (λ m. leb k (size (columnsOf (lengt
       arith,
       leb→le k (size (columnsOf (length (K ∪ I)) m ∩ (K ∪ I))) t,
       ap (λ (i : ℕ). size (columnsOf i m ∩ (K ∪ I))) (length-∪ K I (sym e)),
-      meet-join (columnsOf (length K) m) K I e,
+      ap size (meet-swap (columnsOf (length K) m) (K ∪ I)),
+      join-meets K I (columnsOf (length K) m) (sym e),
+      ap size (meet-swap K (columnsOf (length K) m)),
     ))
