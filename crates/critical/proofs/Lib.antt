@@ -1,4 +1,3 @@
-pub mod Selection
 pub mod RowMax
 pub mod TableRows
 pub mod PutBackWalk

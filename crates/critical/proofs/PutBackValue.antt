@@ -22,7 +22,7 @@ use Rattle.method.proofs.Critical.{sets-finite, criticalValue-finite}
 use Rattle.masks.specs.Internal.{CheckedTable}
 use Rattle.masks.proofs.Walks.{valuesFrom, values-all}
 use Rattle.critical.specs.Internal.{larger, bestOf}
-use Rattle.critical.proofs.Selection.{low, finite-low}
+use Rattle.order.proofs.Infinities.{low, finite-low}
 use Rattle.critical.proofs.RowMax.{smaller-low, low-finite}
 
 -- what holds of both holds of the larger

@@ -29,7 +29,7 @@ use Rattle.columns.proofs.Masks.{columnsOf-length}
 use Rattle.method.specs.Method.{kMax}
 use Rattle.critical.specs.Internal.{four, pushed, nth}
 use Rattle.critical.specs.declared.kmax.Top.{Top}
-use Rattle.critical.proofs.Selection.{low, finite-low}
+use Rattle.order.proofs.Infinities.{low, finite-low}
 
 -- a low bound is below a finite value by their keys, minus infinity's being 0
 pub smaller-low : (t x : Float) → T (low t) → T (finite x) → smaller t x ≡ ltb (key t) (key x)

@@ -1,19 +1,15 @@
 -- Definitions that only the inner functions cite. Definitions only; a reader of the promises needs none of them.
---   between lo hi x      x lies strictly between lo and hi
 --   four, pushed t x     the four largest values; once x is seen too
 --   nth t k              the k-th of four, k from 1
 --   larger b c           the larger of two values, the first of equals
 --   bestOf b cs          the largest of b and all members
 use Prim.Native.Nat.{ℕ}
-use mathlib.Core.Bool.{Bool, cond, _&&_}
+use mathlib.Core.Bool.{cond}
 use mathlib.Core.List.{List, [], _∷_}
 use lib.Dec.{eqb}
 use lib.Ieee.{Float}
 use Rattle.order.specs.Order.{smaller}
 use Rattle.critical.specs.declared.kmax.Top.{Top}
-
-abbrev pub between : Float → Float → Float → Bool
-between lo hi x = smaller lo x && smaller x hi
 
 -- ---- the four largest values, in falling order
 

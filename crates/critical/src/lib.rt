@@ -4,7 +4,6 @@ mod counts; // formula 16: how many rows reach an observed value
 mod kmax; // a row's k-max
 mod putback; // the walk over put-back sets
 mod quantile; // c(K): a quantile of the k-max values, with the work buffer
-mod smallest; // the m-th smallest of a slice
 
 pub use counts::at_least;
 pub use putback::put_back;

@@ -1,7 +1,6 @@
 // c(K): the rows' k-max values over a set go into the work buffer, and the (M - e)-th smallest of them is found there.
 use super::Figures;
 use super::kmax;
-use super::smallest;
 ghost use mathlib.Core.Path.{_≡_};
 ghost use mathlib.Core.List.{map};
 ghost use Prim.Native.Nat.{_<_, _≤_};
@@ -32,5 +31,5 @@ pub fn critical_value(table: &[f64], work: &mut [f64], f: Figures, set: u32) -> 
     ensures { λ r. ⌜ (r ≡ criticalValue (f .k) (f .e) (rowsOf (f .rows) (f .columns) (now (table .entry))) (columnsOf (f .columns) set)) × (drop (f .rows) (now (work .exit)) ≡ drop (f .rows) (now (work .entry))) ⌝ }
 {
     fill(table, work, f.rows, f.columns, f.k, set);
-    smallest::mth_smallest(&work[..f.rows], f.rows - f.e)
+    select::mth_smallest(&work[..f.rows], f.rows - f.e)
 }

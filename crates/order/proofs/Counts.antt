@@ -106,14 +106,6 @@ module _ {A : Type 0} where
   count-sum-le r p q s [] h t = omega arith
   count-sum-le r p q s (x ∷ l) h t = omega (arith, h x (and-left (r x) (all r l) t), count-sum-le r p q s l h (and-right (r x) (all r l) t))
 
-  -- a test that lets fewer by, and not the member at i
-  pub count-less-of : (r p q : A → Bool) (l : List A) (i : ℕ) (d : A) → ((x : A) → T (r x) → T (q x) → T (p x)) → T (all r l) → i < length l → T (p (getD l i d)) → (T (q (getD l i d)) → ⊥) → count q l < count p l
-  unfolding count all
-  count-less-of r p q [] i d h rs k t f = absurd (omega arith)
-  count-less-of r p q (x ∷ l) zero d h rs k t f = omega (arith, bit-yes (p x) t, bit-none (q x) f, count-le r q p l h (and-right (r x) (all r l) rs))
-  count-less-of r p q (x ∷ l) (suc i) d h rs k t f =
-      omega (arith, bit-le (q x) (p x) (h x (and-left (r x) (all r l) rs)), count-less-of r p q l i d h (and-right (r x) (all r l) rs) (omega arith) t f)
-
   pub count-not : (p : A → Bool) (l : List A) → count p l + count (λ x. not (p x)) l ≡ length l
   unfolding count
   count-not p [] = refl

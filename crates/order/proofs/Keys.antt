@@ -24,11 +24,11 @@ use Rattle.order.proofs.Booleans.{iff-ltb, leb-not, and-left, and-right
 -- ---- magnitudes, in any format
 
 -- the magnitude m * 2 ^ e in units of the format's smallest positive value
-abbrev mag : Format → ℕ → ℤ → ℕ
+abbrev pub mag : Format → ℕ → ℤ → ℕ
 mag f m e = m * up e * 2 ^ low f / down e
 
 -- B and so many above it, or below it
-abbrev signed : ℕ → Bool → ℕ → ℕ
+abbrev pub signed : ℕ → Bool → ℕ → ℕ
 signed B false n = B + n
 signed B true n = B - n
 
@@ -61,7 +61,7 @@ fits-under f s (suc m) e t =
 mag-val : (f : Format) (s : Bool) (m : ℕ) (e : ℤ) → T (fits f (fin s m e)) → mag f m e * down e ≡ m * up e * 2 ^ low f
 mag-val f s m e t = exact (m * up e) e (low f) (fits-down f s m e t)
 
-mag-lt : (f : Format) (s : Bool) (m : ℕ) (e : ℤ) → T (fits f (fin s m e)) → mag f m e < overflow f
+pub mag-lt : (f : Format) (s : Bool) (m : ℕ) (e : ℤ) → T (fits f (fin s m e)) → mag f m e < overflow f
 mag-lt f s m e t =
     lt-of-mul-lt-mul-right (down e) (rw (mag-val f s m e t, pow-add 2 (low f) (suc (emax f)))
     (rw (mul-comm (2 ^ low f) (2 ^ suc (emax f)), mul-assoc (2 ^ suc (emax f)) (2 ^ low f) (down e), mul-comm (2 ^ low f) (down e), ← mul-assoc (2 ^ suc (emax f)) (down e) (2 ^ low f))
@@ -198,7 +198,7 @@ withPlusZero-keeps p z (fin s (suc m) e) t = t
 pub withPlusZero-finite : (x : Float) → T (finite x) → T (finite (withPlusZero x))
 withPlusZero-finite = withPlusZero-keeps finite zero-finite
 
-zero-mag : (f : Format) (e : ℤ) → mag f 0 e ≡ 0
+pub zero-mag : (f : Format) (e : ℤ) → mag f 0 e ≡ 0
 zero-mag f e = rw (zero-mul (up e), zero-mul (2 ^ low f)) (native.Mathlib.Nat.zero-div (down e))
 
 zero-signed : (s : Bool) (B x : ℕ) → x ≡ 0 → signed B s x ≡ B
@@ -229,7 +229,7 @@ same-mag f s m e n d t u h = sym (ofBits-toBits f (fin s m e) t) ∙ ap (ofBits 
     bits = ap (λ (z : ℕ). let k = lib.Ieee.size z - prec f in cond s (top f) 0 + k * hid f + z / 2 ^ k) h
 
 -- a magnitude of zero is zero's
-no-mag : (f : Format) (s : Bool) (m : ℕ) (e : ℤ) → T (fits f (fin s m e)) → mag f m e ≡ 0 → m ≡ 0
+pub no-mag : (f : Format) (s : Bool) (m : ℕ) (e : ℤ) → T (fits f (fin s m e)) → mag f m e ≡ 0 → m ≡ 0
 no-mag f s zero e t h = refl
 no-mag f s (suc m) e t h =
     absurd (let p : 0 < suc m * up e * 2 ^ low f = mul-pos (mul-pos (omega arith) (lib.Ieee.Fits.up-pos e)) (pow-pos (low f)) in

@@ -3,5 +3,8 @@ pub mod Counts
 pub mod Lists
 pub mod Slices
 pub mod Keys
+pub mod Infinities
+pub mod Places
 pub mod Rows
 pub mod Signed
+pub mod Powers

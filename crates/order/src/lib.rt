@@ -1,5 +1,9 @@
-// The order of f64 values: which are finite, and plus zero for either zero.
+// The order of f64 values: which are finite, plus zero for either zero, and their places in the 64-bit order.
 // The definitions are in specs/, their laws in proofs/.
+mod bits; // the 64-bit order
+
+pub use bits::bits_place;
+pub use bits::value_at;
 ghost use mathlib.Core.Path.{_≡_};
 ghost use Rattle.order.specs.Order.{finite, withPlusZero};
 ghost use Rattle.order.specs.Counting.{all};

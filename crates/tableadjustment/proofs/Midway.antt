@@ -30,7 +30,7 @@ use Rattle.columns.proofs.Masks.{columnsOf-length}
 use Rattle.columns.proofs.Remaining.{left-all}
 use Rattle.masks.specs.Internal.{CheckedTable}
 use Rattle.masks.proofs.Parts.{part-length, part-row}
-use Rattle.critical.proofs.Selection.{all-below}
+use Rattle.order.proofs.Infinities.{all-below}
 use Rattle.adjustment.specs.Passes.{topColumn, needed, kMaxFrom, kMaxPass}
 use Rattle.tableadjustment.specs.Internal.{Passable, Raising, orderFrom, rowsHit}
 use Rattle.adjustment.proofs.Needed.{needed-falls}

@@ -1,0 +1,229 @@
+-- What the steps of the selection give.
+--   bits-reach, rest-fits, cleared-is          how many bits a number has, and a number with its lowest bits zero
+--   past-end, past-next                        the value at the first place after those that are left
+--   any-.., every-..                           the bits that some patterns have set, and those that all have
+--   none-held                                  before any pass
+--   lower-is                                   a count of smaller values is one of lower places
+--   room, pass-room, pass-set, pass-clear      one pass
+--   narrow                                     bits that all values left share
+--   none-free                                  after the last pass
+use Prim.Native.Nat.{ℕ, zero, suc, _+_, _-_, _*_, _/_, _%_, _^_, _≤_, _<_}
+use native.Mathlib.Omega.{arith}
+use native.Mathlib.Nat.{div-eq-of-lt, pow-suc}
+use native.Mathlib.Numerals.{add-one}
+use mathlib.Core.Path.{_≡_, refl, sym, ap, subst, _∙_}
+use mathlib.Core.Bool.{Bool, true, false, not, cond, _&&_, _||_}
+use mathlib.Core.List.{List, [], _∷_}
+use lib.ListN.{length, getD, drop, drop-of-length-le}
+use lib.Seq.{drop-cons}
+use lib.Dec.{T, ltb, leb, eqb, ltb→lt, leb→le, le→leb}
+use lib.Pow.{pow-pos, split, shr-mono}
+use lib.Bits.{bitAnd, bitOr, bitXor, or-add-and, xor-add-and, and-le-l, and-le-r, xor-shr}
+use lib.Count.{leadingZeros, leading-le, leading-length}
+use lib.Ieee.{Float, nan, inf, fin, binary64, lt, isNan, toBits}
+use borrow.Author.Tests.{lt-ltb, le-ltb, eq-eqb}
+use Rattle.order.specs.Order.{finite, smaller, withPlusZero}
+use Rattle.order.specs.Counting.{count, all}
+use Rattle.order.specs.Places.{place, bitsPlace, valueAt}
+use Rattle.order.proofs.Booleans.{never, true-T, and-left, and-right, and-both}
+use Rattle.order.proofs.Counts.{all-le, all-both, count-same}
+use Rattle.order.proofs.Keys.{zero-finite}
+use Rattle.order.proofs.Places.{place-fits, place-shares, below-valueAt, valueAt-high}
+use Rattle.order.proofs.Powers.{top-room}
+use Rattle.order.proofs.Rows.{Finite}
+use Rattle.select.specs.Rank.{mthSmallest}
+use Rattle.select.specs.Passes.{lower, topBits, leftAt, passed}
+use Rattle.select.specs.Internal.{chosen, anyBits, everyBits, Holds}
+use Rattle.select.specs.declared.smallest.Held.{Held}
+use Rattle.select.proofs.Passes.{answer-finite, one-pass, shared-bits}
+use Rattle.select.proofs.Ranks.{mthSmallest-keeps}
+
+-- ---- bits of a number
+
+pub bits-reach : (d : ℕ) → d < 2 ^ 64 → (leadingZeros 64 d ≤ 64) × (d < 2 ^ (64 - leadingZeros 64 d))
+bits-reach d h =
+    let l = leading-length 64 d h in
+    let e : l .0 ≡ 64 - leadingZeros 64 d = omega (arith, l .1) in
+    (leading-le 64 d, subst (λ (m : ℕ). d < 2 ^ m) e (l .2))
+
+pub rest-fits : (p o w : ℕ) → w ≡ 2 ^ o → p % w ≤ p
+rest-fits p o w e = rw e (omega (arith, split p o))
+
+pub cleared-is : (p o w : ℕ) → w ≡ 2 ^ o → p - p % w ≡ topBits o p
+cleared-is p o w e = rw e (omega (arith, split p o))
+
+-- ---- the first place after those that are left
+
+pub past-end : (p o w l : ℕ) → w ≡ 2 ^ o → l ≡ p + (w - 1) → l ≡ 2 ^ 64 - 1 → inf false ≡ valueAt (p + 2 ^ o)
+unfolding place bitsPlace toBits withPlusZero
+past-end p o w l e f g = valueAt-high (p + 2 ^ o) (omega (arith, pow-pos o))
+
+pub past-next : (p o w l : ℕ) → w ≡ 2 ^ o → l ≡ p + (w - 1) → {v : Float} → v ≡ valueAt (l + 1) → v ≡ valueAt (p + 2 ^ o)
+past-next p o w l e f {v} q = q ∙ ap valueAt same
+  where
+    same : l + 1 ≡ p + 2 ^ o
+    same = omega (arith, pow-pos o)
+
+-- ---- the patterns of the values left
+
+pub smaller-number : (x t : Float) → smaller x t ≡ true → {y : Float} → y ≡ withPlusZero x → T (not (isNan y))
+unfolding lt withPlusZero isNan
+smaller-number nan t l e = absurd (never false refl (true-T false l))
+smaller-number (inf s) t l e = rw e tt
+smaller-number (fin s zero k) t l e = rw e tt
+smaller-number (fin s (suc m) k) t l e = rw e tt
+
+or-left : (a b : ℕ) → a ≤ bitOr a b
+or-left a b = omega (arith, or-add-and a b, and-le-r a b)
+
+or-right : (a b : ℕ) → b ≤ bitOr a b
+or-right a b = omega (arith, or-add-and a b, and-le-l a b)
+
+xor-none : (a b : ℕ) → bitXor a b ≡ 0 → a ≡ b
+xor-none a b e = omega (arith, xor-add-and a b, and-le-l a b, and-le-r a b)
+
+-- what lies between two numbers that differ in none of their top bits shares them
+xor-top : (o a b c : ℕ) → bitXor a b < 2 ^ o → b ≤ c → c ≤ a → c / 2 ^ o ≡ a / 2 ^ o
+xor-top o a b c l h g =
+    let e : a / 2 ^ o ≡ b / 2 ^ o = xor-none (a / 2 ^ o) (b / 2 ^ o) (sym (xor-shr a b o) ∙ div-eq-of-lt l) in
+    omega (arith, shr-mono o h, shr-mono o g)
+
+module _ (lo hi : Float) where
+  any-grows : (d : ℕ) (xs : List Float) → d ≤ anyBits lo hi d xs
+  unfolding anyBits
+  any-grows d [] = omega arith
+  any-grows d (x ∷ xs) = omega (arith, or-left d (chosen lo hi x 0), any-grows (bitOr d (chosen lo hi x 0)) xs)
+
+  every-falls : (d : ℕ) (xs : List Float) → everyBits lo hi d xs ≤ d
+  unfolding everyBits
+  every-falls d [] = omega arith
+  every-falls d (x ∷ xs) = omega (arith, and-le-l d (chosen lo hi x (2 ^ 64 - 1)), every-falls (bitAnd d (chosen lo hi x (2 ^ 64 - 1))) xs)
+
+  any-all : (d : ℕ) (xs : List Float) (n : ℕ) → anyBits lo hi d xs ≤ n → T (all (λ x. leb (chosen lo hi x 0) n) xs)
+  unfolding anyBits all
+  any-all d [] n h = tt
+  any-all d (x ∷ xs) n h =
+      let c = chosen lo hi x 0 in
+      and-both (leb c n) (all (λ x. leb (chosen lo hi x 0) n) xs) (le→leb c n (omega (arith, or-right d c, any-grows (bitOr d c) xs))) (any-all (bitOr d c) xs n h)
+
+  every-all : (d : ℕ) (xs : List Float) (n : ℕ) → n ≤ everyBits lo hi d xs → T (all (λ x. leb n (chosen lo hi x (2 ^ 64 - 1))) xs)
+  unfolding everyBits all
+  every-all d [] n h = tt
+  every-all d (x ∷ xs) n h =
+      let c = chosen lo hi x (2 ^ 64 - 1) in
+      and-both (leb n c) (all (λ x. leb n (chosen lo hi x (2 ^ 64 - 1))) xs) (le→leb n c (omega (arith, and-le-r d c, every-falls (bitAnd d c) xs))) (every-all (bitAnd d c) xs n h)
+
+  -- one value more, and none
+  module _ (xs : List Float) (i d : ℕ) {s : ℕ} where
+    pub any-turn : {c : ℕ} → i < length xs → c ≡ chosen lo hi (getD xs i nan) 0 → anyBits lo hi d (drop i xs) ≡ s → anyBits lo hi (bitOr d c) (drop (i + 1) xs) ≡ s
+    unfolding anyBits
+    any-turn h e q =
+        let more : drop i xs ≡ getD xs i nan ∷ drop (i + 1) xs = rw (add-one, drop-cons xs i nan) in
+        ap (λ (z : ℕ). anyBits lo hi (bitOr d z) (drop (i + 1) xs)) e ∙ sym (ap (anyBits lo hi d) more) ∙ q
+
+    pub every-turn : {c : ℕ} → i < length xs → c ≡ chosen lo hi (getD xs i nan) (2 ^ 64 - 1) → everyBits lo hi d (drop i xs) ≡ s → everyBits lo hi (bitAnd d c) (drop (i + 1) xs) ≡ s
+    unfolding everyBits
+    every-turn h e q =
+        let more : drop i xs ≡ getD xs i nan ∷ drop (i + 1) xs = rw (add-one, drop-cons xs i nan) in
+        ap (λ (z : ℕ). everyBits lo hi (bitAnd d z) (drop (i + 1) xs)) e ∙ sym (ap (everyBits lo hi d) more) ∙ q
+
+    pub any-end : length xs ≤ i → anyBits lo hi d (drop i xs) ≡ s → d ≡ s
+    unfolding anyBits
+    any-end h q = let none : drop i xs ≡ [] = rw drop-of-length-le in sym (ap (anyBits lo hi d) none) ∙ q
+
+    pub every-end : length xs ≤ i → everyBits lo hi d (drop i xs) ≡ s → d ≡ s
+    unfolding everyBits
+    every-end h q = let none : drop i xs ≡ [] = rw drop-of-length-le in sym (ap (everyBits lo hi d) none) ∙ q
+
+or-if : (b c : Bool) → (T b → T c) → T (not b || c)
+or-if true c f = f tt
+or-if false c f = tt
+
+-- ---- before any pass
+
+pub none-held : (m : ℕ) (xs : List Float) → Finite xs → (u v : ℕ) → Holds m xs (record { place = 0; free = 64; under = u; upto = v })
+none-held m xs fs u v = record { bits = omega arith; top = sym (ap (λ (q : ℕ). q * 2 ^ 64) (div-eq-of-lt (place-fits (mthSmallest m xs) (mthSmallest-keeps finite zero-finite m xs fs)))) }
+
+-- ---- one pass
+
+pub lower-is : (xs : List Float) → Finite xs → (p : ℕ) → count (λ x. smaller x (valueAt p)) xs ≡ lower p xs
+lower-is xs fs p = count-same finite (λ x. smaller x (valueAt p)) (λ x. ltb (place x) p) xs (λ x f. below-valueAt p x f) fs
+
+module _ (m : ℕ) (xs : List Float) (fs : Finite xs) (pos : 0 < m) (many : m ≤ length xs) (h : Held) (s : Holds m xs h) where
+  pub room : h .place + 2 ^ h .free ≤ 2 ^ 64
+  room = rw (s .top) (top-room 64 (h .free) (place (mthSmallest m xs)) (s .bits) (place-fits (mthSmallest m xs) (answer-finite m xs fs pos many)))
+
+  module _ (g : 0 < h .free) (o w : ℕ) (eo : o ≡ h .free - 1) (ew : w ≡ 2 ^ o) where
+    twice : 2 ^ h .free ≡ w + w
+    twice =
+        let e : h .free ≡ suc o = omega arith in
+        omega (arith, ap (λ (z : ℕ). 2 ^ z) e, pow-suc 2 o)
+
+    pub pass-room : h .place + w < 2 ^ 64
+    pass-room = omega (arith, room, twice, pow-pos o)
+
+    module _ (p n : ℕ) {v : Float} (ep : p ≡ h .place + w) (ev : v ≡ valueAt p) (en : n ≡ count (λ x. smaller x v) xs) where
+      counted : n ≡ lower p xs
+      counted = en ∙ ap (λ (z : Float). count (λ x. smaller x z) xs) ev ∙ lower-is xs fs p
+
+      there : h .place + 2 ^ o ≡ p
+      there = omega arith
+
+      next : passed m xs o (h .place) ≡ topBits o (place (mthSmallest m xs))
+      next = one-pass m xs fs pos many o (h .place) (s .top ∙ ap (λ (z : ℕ). topBits z (place (mthSmallest m xs))) (omega arith))
+
+      pub pass-set : n < m → (p ≡ passed m xs (h .free - 1) (h .place)) × (o ≡ h .free - 1) × Holds m xs (record { place = p; free = o; under = n; upto = h .upto })
+      unfolding passed
+      pass-set l =
+          let e : p ≡ passed m xs o (h .place) = rw (there, lt-ltb (lower p xs) m (omega (arith, counted))) in
+          (e ∙ ap (λ (z : ℕ). passed m xs z (h .place)) eo, eo, record { bits = omega (arith, s .bits); top = e ∙ next })
+
+      pub pass-clear : m ≤ n → (h .place ≡ passed m xs (h .free - 1) (h .place)) × (o ≡ h .free - 1) × Holds m xs (record { place = h .place; free = o; under = h .under; upto = n })
+      unfolding passed
+      pass-clear l =
+          let e : h .place ≡ passed m xs o (h .place) = rw (there, le-ltb (lower p xs) m (omega (arith, counted))) in
+          (e ∙ ap (λ (z : ℕ). passed m xs z (h .place)) eo, eo, record { bits = omega (arith, s .bits); top = e ∙ next })
+
+  -- ---- bits that all values left share
+
+  module _ {lo hi : Float} (el : lo ≡ valueAt (h .place)) (eh : hi ≡ valueAt (h .place + 2 ^ h .free)) (any every : ℕ) (ea : any ≡ anyBits lo hi 0 xs) (ee : every ≡ everyBits lo hi (2 ^ 64 - 1) xs)
+      (fit : any < 2 ^ 64) (o : ℕ) (few : o ≤ 64) (reach : bitXor any every < 2 ^ o) where
+    -- a value left is not below lo, and below hi
+    chosen-is : (x : Float) → T (finite x) → T (leftAt (h .place) (h .free) (place x)) → (d : ℕ) → chosen lo hi x d ≡ toBits binary64 (withPlusZero x)
+    unfolding chosen
+    chosen-is x f t d =
+        let p = place x in
+        let l = leb→le (h .place) p (and-left (leb (h .place) p) (ltb p (h .place + 2 ^ h .free)) t) in
+        let g = ltb→lt p (h .place + 2 ^ h .free) (and-right (leb (h .place) p) (ltb p (h .place + 2 ^ h .free)) t) in
+        rw (ap (smaller x) el ∙ below-valueAt (h .place) x f ∙ le-ltb p (h .place) l, ap (smaller x) eh ∙ below-valueAt (h .place + 2 ^ h .free) x f ∙ lt-ltb p (h .place + 2 ^ h .free) g)
+
+    shares : (x : Float) → T (finite x) → T (leb (chosen lo hi x 0) any) → T (leb every (chosen lo hi x (2 ^ 64 - 1))) → T (leftAt (h .place) (h .free) (place x)) → topBits o (place x) ≡ topBits o (bitsPlace any)
+    shares x f t u l =
+        let b = toBits binary64 (withPlusZero x) in
+        ap (λ (q : ℕ). q * 2 ^ o)
+        (place-shares o few x f any fit
+        (xor-top o any every b reach (omega (arith, leb→le every (chosen lo hi x (2 ^ 64 - 1)) u, chosen-is x f l (2 ^ 64 - 1))) (omega (arith, leb→le (chosen lo hi x 0) any t, chosen-is x f l 0))))
+
+    shared : T (all (λ x. not (leftAt (h .place) (h .free) (place x)) || eqb (topBits o (place x)) (topBits o (bitsPlace any))) xs)
+    shared =
+        all-le (λ x. finite x && (leb (chosen lo hi x 0) any && leb every (chosen lo hi x (2 ^ 64 - 1)))) (λ x. not (leftAt (h .place) (h .free) (place x)) || eqb (topBits o (place x)) (topBits o (bitsPlace any))) xs each
+        (all-both finite (λ x. leb (chosen lo hi x 0) any && leb every (chosen lo hi x (2 ^ 64 - 1))) xs fs
+        (all-both (λ x. leb (chosen lo hi x 0) any) (λ x. leb every (chosen lo hi x (2 ^ 64 - 1))) xs (any-all lo hi 0 xs any (omega arith)) (every-all lo hi (2 ^ 64 - 1) xs every (omega arith))))
+      where
+        each : (x : Float) → T (finite x && (leb (chosen lo hi x 0) any && leb every (chosen lo hi x (2 ^ 64 - 1)))) → T (not (leftAt (h .place) (h .free) (place x)) || eqb (topBits o (place x)) (topBits o (bitsPlace any)))
+        each x t =
+            let A = leb (chosen lo hi x 0) any in
+            let E = leb every (chosen lo hi x (2 ^ 64 - 1)) in
+            let b = and-right (finite x) (A && E) t in
+            or-if (leftAt (h .place) (h .free) (place x)) (eqb (topBits o (place x)) (topBits o (bitsPlace any))) (λ l. true-T (eqb (topBits o (place x)) (topBits o (bitsPlace any))) (eq-eqb (topBits o (place x)) (topBits o (bitsPlace any)) (shares x (and-left (finite x) (A && E) t) (and-left A E b) (and-right A E b) l)))
+
+    pub narrow : (p u v : ℕ) → p ≡ topBits o (bitsPlace any) → Holds m xs (record { place = p; free = o; under = u; upto = v })
+    narrow p u v e = record { bits = few; top = e ∙ sym (shared-bits m xs fs pos many (h .free) (h .place) o (topBits o (bitsPlace any)) (s .top) shared) }
+
+-- ---- no bit is free any more
+
+pub none-free : (m : ℕ) (xs : List Float) (h : Held) → Holds m xs h → h .free ≤ 0 → h .place ≡ topBits 0 (place (mthSmallest m xs))
+none-free m xs h s z = s .top ∙ ap (λ (o : ℕ). topBits o (place (mthSmallest m xs))) none
+  where
+    none : h .free ≡ 0
+    none = omega arith

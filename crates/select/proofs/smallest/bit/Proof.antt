@@ -1,0 +1,11 @@
+-- `bit` meets its contract.
+use Rattle.order.proofs.Powers.{bit-is}
+use borrow.Author.Needs.{needs}
+use Rattle.select.proofs.smallest.bit.Statement.{statement}
+use Rattle.select.proofs.smallest.bit.Tie as tie
+
+returns : tie.Need-returns
+returns c = bit-is 64 _ (c .pre)
+
+pub bit-spec : {M : Type 1} → statement M
+bit-spec = tie.close (tie.spec (λ c. search needs) returns)

@@ -1,0 +1,55 @@
+// One look at all values each: loops that compare with thresholds and depend on nothing else, so that they become vector instructions.
+ghost use mathlib.Core.Path.{_≡_};
+ghost use Prim.Native.Nat.{_-_, _^_};
+ghost use Rattle.order.specs.Order.{smaller};
+ghost use Rattle.order.specs.Counting.{count};
+ghost use Rattle.select.specs.Internal.{chosen, anyBits, everyBits};
+
+// How many values are smaller than t.
+pub(crate) fn count_below(xs: &[f64], t: f64) -> usize
+    ensures { λ r. ⌜ r ≡ count (λ x. smaller x t) (now (xs .entry)) ⌝ }
+{
+    let mut n: usize = 0;
+    let mut i: usize = 0;
+    while i < xs.len() {
+        if xs[i] < t {
+            n += 1;
+        }
+        i += 1;
+    }
+    n
+}
+
+// The bit pattern of x, if it is one of those from lo to below hi; `none` elsewhere.
+fn pattern(lo: f64, hi: f64, x: f64, none: u64) -> u64
+    ensures { λ r. ⌜ r ≡ chosen lo hi x none ⌝ }
+{
+    if x < lo {
+        return none;
+    }
+    if x < hi {
+        return f64::to_bits(order::plus_zero(x));
+    }
+    none
+}
+
+// The bits that are set in some of the patterns from lo to below hi, and those that are set in all of them.
+pub struct Patterns {
+    pub any: u64,
+    pub every: u64,
+}
+
+pub(crate) fn gather(xs: &[f64], lo: f64, hi: f64) -> Patterns
+    ensures { λ r. ⌜ (r .any ≡ anyBits lo hi 0 (now (xs .entry))) × (r .every ≡ everyBits lo hi (2 ^ 64 - 1) (now (xs .entry))) ⌝ }
+{
+    let mut any: u64 = 0;
+    let mut every: u64 = 0xFFFF_FFFF_FFFF_FFFF;
+    let mut i: usize = 0;
+    while i < xs.len() {
+        let x = xs[i];
+        any = any | pattern(lo, hi, x, 0);
+        every = every & pattern(lo, hi, x, 0xFFFF_FFFF_FFFF_FFFF);
+        i += 1;
+    }
+    Patterns { any, every }
+}
