@@ -2,16 +2,22 @@
 -- A contract says that a public function answers what a definition gives, for every input; the theorems are about those definitions.
 -- Every call is `answer checks accepted refused`, and every lent buffer `afterwards checks new old` (refusals/specs/Answers.antt): Calls.antt
 -- beside this page lists them, with the stated orders. docs/CLAIMS.md maps every sentence of document 01, and of the requests, to what keeps it.
-use Prim.Native.Nat.{ℕ, _*_, _≤_, _<_}
+use Prim.Native.Nat.{ℕ, _*_, _-_, _^_, _≤_, _<_}
 use mathlib.Core.Path.{_≡_, refl, _∙_}
-use mathlib.Core.Bool.{Bool, true}
+use mathlib.Core.Bool.{Bool, true, not, _||_}
 use mathlib.Core.List.{List, map}
 use mathlib.Core.Logic.{_↔_, _⊎_}
 use lib.ListN.{length, getD, take}
-use lib.Dec.{T}
+use lib.Dec.{T, ltb, eqb}
 use lib.Ieee.{Float, binary64, ofInt, toSigned}
 use Rattle.limits.specs.Limits.{inputRoom, longestReport, longestSheet}
-use Rattle.order.specs.Order.{plusZero}
+use Rattle.order.specs.Order.{plusZero, finite, smaller, equal}
+use Rattle.order.specs.Counting.{all}
+use Rattle.order.specs.Places.{place}
+use Rattle.order.proofs.Places as places
+use Rattle.select.specs.Rank.{mthSmallest}
+use Rattle.select.specs.Passes.{topBits, leftAt, held}
+use Rattle.select.proofs.Passes as passes
 use Rattle.order.specs.Lists.{rowsOf}
 use Rattle.refusals.specs.Answers.{Checks, First, firstRefusal, afterwards}
 use Rattle.refusals.specs.Limits.{allowance}
@@ -238,3 +244,22 @@ sheet-refused bytes n f = answered (fileChecks bytes) _ refusedText .refuses n f
 -- W's figures are 1 and 3, P's with k 2 are 0, 1 and 2; a table with ties among the observed values
 pub adjusted-examples : map (λ x. x .asked) adjusted.examples ≡ map (λ x. x .told) adjusted.examples
 adjusted-examples = figure-examples.all-examples
+
+-- ==== Large tables (document 02, §2) ====
+
+-- each finite value has its place, a 64-bit number, and stands lower exactly when it is smaller; equal places are those of equal values
+module _ (x y : Float) (u : T (finite x)) (v : T (finite y)) where
+  pub lower-exactly : (place x < 2 ^ 64) × (smaller x y ≡ ltb (place x) (place y)) × (T (equal x y) ↔ (place x ≡ place y))
+  lower-exactly = (places.place-fits x u, places.place-smaller x y u v, places.place-equal x y u v)
+
+-- each pass over the values makes one bit more, from the top, that of the m-th smallest's place, so that 64 settle it
+module _ (m : ℕ) (xs : List Float) (fs : T (all finite xs)) (pos : 0 < m) (many : m ≤ length xs) where
+  pub one-bit-more : (p : ℕ) → p ≤ 64 → held m xs p ≡ topBits (64 - p) (place (mthSmallest m xs))
+  one-bit-more = passes.after-passes m xs fs pos many
+
+  pub settled-by-64 : held m xs 64 ≡ place (mthSmallest m xs)
+  settled-by-64 = passes.settled m xs fs pos many
+
+  -- bits that all values left share need no pass; where those are equal, none is needed
+  pub shared-settled : (f h o q : ℕ) → h ≡ topBits f (place (mthSmallest m xs)) → T (all (λ x. not (leftAt h f (place x)) || eqb (topBits o (place x)) q) xs) → topBits o (place (mthSmallest m xs)) ≡ q
+  shared-settled = passes.shared-bits m xs fs pos many
