@@ -10,6 +10,7 @@ import random
 from generators.adjusted import adjusted_cases
 from generators.examples import example_cases
 from generators.files import file_cases, further_file_cases
+from generators.order import further_order_cases, order_cases
 from generators.records import record_cases
 from generators.runs import step_cases, walk_cases
 from generators.tables import further_table_cases, table_cases
@@ -25,8 +26,10 @@ FAMILIES = {
     "step": step_cases,
     "walk": walk_cases,
     "look": look_cases,
+    "order": order_cases,
 }
-FURTHER = {"file": further_file_cases, "table": further_table_cases, "adjusted": adjusted_cases}
+FURTHER = {"file": further_file_cases, "table": further_table_cases, "order": further_order_cases,
+           "adjusted": adjusted_cases}
 EVERY_FAMILY = (*FAMILIES, *(family for family in FURTHER if family not in FAMILIES))
 
 
@@ -40,6 +43,12 @@ def every_case_of(family: str):
     yield from cases_of(family)
     if family in FURTHER:
         yield from FURTHER[family](random.Random(f"{SEED}/further/{family}"))
+
+
+def every_table_case():
+    """The cases of a lent table for a full run."""
+    yield from every_case_of("table")
+    yield from every_case_of("order")
 
 
 def all_cases():

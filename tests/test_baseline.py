@@ -14,7 +14,7 @@ from ctypes import (CDLL, POINTER, Structure, byref, c_double, c_int, c_int32, c
                     c_uint32)
 from pathlib import Path
 
-from cases import cases_of, every_case_of
+from cases import cases_of, every_case_of, every_table_case
 from expected import MARK
 from generators.kinds import TableCase
 from reference import ccall, report, table, trialfile
@@ -104,7 +104,7 @@ def lent_table(case, work) -> CTable:
 class Tables(unittest.TestCase):
     def test_full_runs(self):
         refused = set()
-        for case in every_case_of("table"):
+        for case in every_table_case():
             expected_work, work = [float(MARK)] * case.work_room, marked(c_double, case.work_room)
             answer = table.full_run(case.values, case.rows, case.columns, case.k, case.a, case.b,
                                     case.observed, expected_work)
@@ -119,7 +119,7 @@ class Tables(unittest.TestCase):
         self.assertEqual(refused, {3, 4, 9, 10, 11, 12})
 
     def test_verdicts(self):
-        for case in every_case_of("table"):
+        for case in every_table_case():
             if len(case.values) > 4096:
                 continue
             for room in {0, min(case.columns, 40)}:

@@ -8,9 +8,10 @@ import subprocess
 import tempfile
 import unittest
 from ctypes import CDLL, c_double, c_int32, c_size_t, c_uint8, c_uint32
+from itertools import chain
 from pathlib import Path
 
-from cases import cases_of
+from cases import cases_of, every_case_of
 from expected import MARK
 from reference import ccall, report, table, trialfile
 from reference.refusals import Refused
@@ -105,7 +106,7 @@ class Calls(unittest.TestCase):
 
     def test_tables(self):
         refused = set()
-        for case in cases_of("table"):
+        for case in chain(cases_of("table"), every_case_of("order")):
             values = (c_double * max(len(case.values), 1))(*case.values)
             work, expected_work = marked(c_double, case.work_room), [float(MARK)] * case.work_room
             steps, criticals = marked(c_size_t, 1), marked(c_double, 32)

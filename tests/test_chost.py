@@ -116,11 +116,13 @@ def table_call(case, room: int, values=None) -> Call:
 
 
 def table_calls():
-    """Every table case, with verdict buffers too short, exact and longer."""
+    """Every table case, with verdict buffers too short, exact and longer; those of orders exact."""
     for case in every_case_of("table"):
         needed = min(case.columns, 40)
         for room in sorted({0, max(needed, 1) - 1, needed, needed + 3}):
             yield table_call(case, room)
+    for case in every_case_of("order"):
+        yield table_call(case, case.columns)
 
 
 def figure_places(figures) -> bytes:
