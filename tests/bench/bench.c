@@ -60,6 +60,8 @@ static const struct task tasks[] = {
     {NULL, 0, "4096 x 1, falling then rising", RUN, {VALLEY, 4096, 1, 1, 0}},
     {NULL, 0, "4096 x 1, built against narrowing", RUN, {AGAINST, 4096, 1, 1, 0}},
     {NULL, 0, "4096 x 32, ladder built so", RUN, {AGAINST, 4096, 32, 1, 0}},
+    {NULL, 0, "4096 x 1, few different values", RUN, {FEW, 4096, 1, 1, 0}},
+    {NULL, 0, "4096 x 1, apart in the last bits", RUN, {CLOSE, 4096, 1, 1, 0}},
 };
 
 enum { TASKS = sizeof tasks / sizeof tasks[0] };

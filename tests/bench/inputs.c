@@ -79,6 +79,28 @@ static void make_ladder(const struct recipe *r, double *values)
         values[i] = rung(r, i % r->columns) + 50 * uniform();
 }
 
+static void make_few(const struct recipe *r, double *values)
+{
+    for (size_t i = 0; i < r->rows * r->columns; i++)
+        values[i] = rung(r, i % r->columns) + 5 * (double)(draw() % 8);
+}
+
+/* So many values above a positive one. */
+static double stepped(double value, uint64_t steps)
+{
+    uint64_t bits;
+    memcpy(&bits, &value, sizeof bits);
+    bits += steps;
+    memcpy(&value, &bits, sizeof value);
+    return value;
+}
+
+static void make_close(const struct recipe *r, double *values)
+{
+    for (size_t i = 0; i < r->rows * r->columns; i++)
+        values[i] = stepped(rung(r, i % r->columns) + 20 * (double)(draw() % 3), draw() % 4);
+}
+
 /* The ranks 0 to n - 1 by place: the least one left goes to the middle one of the places left. */
 static void middle_is_least(size_t *rank, size_t n)
 {
@@ -141,6 +163,10 @@ void make_table(const struct recipe *r, size_t number, struct table *t)
         make_slope(r, values);
     else if (r->pattern == LADDER)
         make_ladder(r, values);
+    else if (r->pattern == FEW)
+        make_few(r, values);
+    else if (r->pattern == CLOSE)
+        make_close(r, values);
     else
         observed = make_ordered(r, values);
     if (r->pattern != WINNERS && r->pattern != SLOPE)

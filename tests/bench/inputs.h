@@ -14,7 +14,9 @@ enum pattern {
     FALLING,
     PIPE,    /* rising, then falling */
     VALLEY,  /* falling, then rising */
-    AGAINST  /* built against narrowing: of the values left, the one in the middle place is always the least */
+    AGAINST, /* built against narrowing: of the values left, the one in the middle place is always the least */
+    FEW,     /* as a ladder, with eight different values in a column */
+    CLOSE    /* as a ladder, with values at three places of a column that differ in their last bits */
 };
 
 struct recipe {
