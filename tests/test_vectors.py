@@ -10,7 +10,7 @@ from itertools import combinations
 
 from cases import SEED, all_cases, every_case_of
 from expected import expected
-from generators import files, records
+from generators import files, order, records
 from generators.kinds import FileCase, LookCase, RecordCase, StepCase, TableCase, WalkCase
 from make_vectors import CRATE, files as made_files
 from reference.refusals import Refused, breaks_3, table_breaks_4
@@ -168,6 +168,15 @@ class Covered(unittest.TestCase):
         refused = {(case.rows, case.columns) for case in self.of(TableCase)
                    if 4 in of_figures(case)}
         self.assertLessEqual({(4097, 1), (1, 33), (4097, 32), (4096, 33), (0, 2)}, refused)
+
+    def test_order(self):
+        """Each kind of values at every rank, and each end as the critical value."""
+        names = [f"order-{kind.__name__}-{order.SHORT}-e{e}" for kind in order.KINDS
+                 for e in range(order.SHORT)]
+        self.assertLessEqual(set(names), set(self.cases))
+        found = {expected(self.cases[name])["full_run"][0].records[0].critical_value
+                 for name in names if name.startswith("order-ends-")}
+        self.assertEqual(found, {value + 0.0 for value in order.ENDS})
 
     def test_clauses_of_14(self):
         broken = Counter(tuple(clauses_broken(case.run)) for case in self.of(StepCase))

@@ -53,7 +53,7 @@ static const struct task tasks[] = {
     {NULL, 1, "1024 x 32", RUN, {WINNERS, 1024, 32, 2, 24}},
     {NULL, 1, "1024 x 32", RUN, {WINNERS, 1024, 32, 3, 24}},
     {NULL, 1, "1024 x 32", RUN, {WINNERS, 1024, 32, 4, 24}},
-    {"Order of the values", 0, "4096 x 1, any order", RUN, {LADDER, 4096, 1, 1, 0}},
+    {"Order and nearness of the values", 0, "4096 x 1, any order", RUN, {LADDER, 4096, 1, 1, 0}},
     {NULL, 0, "4096 x 1, rising", RUN, {RISING, 4096, 1, 1, 0}},
     {NULL, 0, "4096 x 1, falling", RUN, {FALLING, 4096, 1, 1, 0}},
     {NULL, 0, "4096 x 1, rising then falling", RUN, {PIPE, 4096, 1, 1, 0}},
@@ -62,6 +62,7 @@ static const struct task tasks[] = {
     {NULL, 0, "4096 x 32, ladder built so", RUN, {AGAINST, 4096, 32, 1, 0}},
     {NULL, 0, "4096 x 1, few different values", RUN, {FEW, 4096, 1, 1, 0}},
     {NULL, 0, "4096 x 1, apart in the last bits", RUN, {CLOSE, 4096, 1, 1, 0}},
+    {NULL, 0, "4096 x 1, built against the bits", RUN, {BITS, 4096, 1, 1, 0}},
 };
 
 enum { TASKS = sizeof tasks / sizeof tasks[0] };

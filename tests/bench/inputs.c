@@ -85,20 +85,43 @@ static void make_few(const struct recipe *r, double *values)
         values[i] = rung(r, i % r->columns) + 5 * (double)(draw() % 8);
 }
 
-/* So many values above a positive one. */
-static double stepped(double value, uint64_t steps)
+static uint64_t bits_of(double value)
 {
     uint64_t bits;
     memcpy(&bits, &value, sizeof bits);
-    bits += steps;
+    return bits;
+}
+
+static double of_bits(uint64_t bits)
+{
+    double value;
     memcpy(&value, &bits, sizeof value);
     return value;
 }
 
+/* So many values above a positive one. */
+static double stepped(double value, uint64_t steps)
+{
+    return of_bits(bits_of(value) + steps);
+}
+
 static void make_close(const struct recipe *r, double *values)
 {
-    for (size_t i = 0; i < r->rows * r->columns; i++)
-        values[i] = stepped(rung(r, i % r->columns) + 20 * (double)(draw() % 3), draw() % 4);
+    for (size_t i = 0; i < r->rows * r->columns; i++) {
+        double centre = rung(r, i % r->columns) + 20 * (double)(draw() % 3);
+        values[i] = stepped(centre, draw() % 4);
+    }
+}
+
+/* One value, but for 13 that differ from it in one bit each, every fourth one down. */
+static void make_bits(const struct recipe *r, double *values)
+{
+    for (size_t i = 0; i < r->rows * r->columns; i++) {
+        size_t row = i / r->columns, bit = row / 200;
+        double centre = rung(r, i % r->columns) + 25;
+        uint64_t turned = row % 200 == 3 && bit < 13 ? UINT64_C(1) << (51 - 4 * bit) : 0;
+        values[i] = of_bits(bits_of(centre) ^ turned);
+    }
 }
 
 /* The ranks 0 to n - 1 by place: the least one left goes to the middle one of the places left. */
@@ -167,6 +190,8 @@ void make_table(const struct recipe *r, size_t number, struct table *t)
         make_few(r, values);
     else if (r->pattern == CLOSE)
         make_close(r, values);
+    else if (r->pattern == BITS)
+        make_bits(r, values);
     else
         observed = make_ordered(r, values);
     if (r->pattern != WINNERS && r->pattern != SLOPE)

@@ -14,9 +14,12 @@ enum pattern {
     FALLING,
     PIPE,    /* rising, then falling */
     VALLEY,  /* falling, then rising */
-    AGAINST, /* built against narrowing: of the values left, the one in the middle place is always the least */
+    AGAINST, /* built against narrowing, the search of earlier builds: of the values left, the one in the middle place is
+                always the least */
     FEW,     /* as a ladder, with eight different values in a column */
-    CLOSE    /* as a ladder, with values at three places of a column that differ in their last bits */
+    CLOSE,   /* as a ladder, with values about three places of a column, which differ in their last bits */
+    BITS     /* as a ladder, built against the search bit by bit: most passes tell no values apart, and no bit is shared by
+                all that are left */
 };
 
 struct recipe {

@@ -13,6 +13,7 @@ from reference.refusals import MAX_B
 from .kinds import TableCase
 from .tables import HUGE, NORMAL, TINY
 
+SHORT = 10  # rows of a column that is stored at every rank
 ENDS = (-HUGE, -1.0, -NORMAL, -TINY, -0.0, 0.0, TINY, NORMAL, 1.0, HUGE)
 
 
@@ -22,7 +23,7 @@ def of_bits(bits):
 
 
 def stepped(value, steps):
-    """So many values further on, away from zero."""
+    """So many values further on, away from zero, or nearer to it."""
     bits, = struct.unpack("<Q", struct.pack("<d", value))
     return of_bits(bits + steps)
 
@@ -47,14 +48,16 @@ def subnormals(rng, rows):
 
 
 def ends(rng, rows):
-    """The largest and the smallest values of both signs."""
-    return [rng.choice(ENDS) for _ in range(rows)]
+    """The largest and the smallest values of both signs: all of them, where the rows are enough."""
+    turns = -(-rows // len(ENDS))
+    return rng.sample(ENDS * turns, rows)
 
 
 def last_bits(rng, rows):
     """Values that differ in their last bits."""
     start = rng.choice((0.0, -0.0, 1.0, -1.0, NORMAL, -NORMAL, math.pi, -1e300))
-    return [stepped(start, rng.randrange(rows + 1)) for _ in range(rows)]
+    below = rng.randrange(rows + 1) if abs(start) >= NORMAL else 0  # across the power of two, too
+    return [stepped(start, rng.randrange(rows + 1) - below) for _ in range(rows)]
 
 
 def powers(rng, rows):
@@ -64,7 +67,7 @@ def powers(rng, rows):
 
 def single_bits(rng, rows):
     """Patterns with one bit set, beside the sign's."""
-    return [of_bits(rng.choice((0, 2 ** 63)) | 2 ** rng.randrange(62)) for _ in range(rows)]
+    return [of_bits(rng.choice((0, 2 ** 63)) | 2 ** rng.randrange(63)) for _ in range(rows)]
 
 
 def clusters(rng, rows):
@@ -100,7 +103,7 @@ def falling(column):
 
 def falling_then_rising(column):
     ordered = sorted(column)
-    return ordered[::-2] + ordered[len(ordered) % 2::2] if len(ordered) > 1 else ordered
+    return ordered[::-2] + ordered[len(ordered) % 2::2]
 
 
 ORDERS = (as_drawn, rising, falling, falling_then_rising)
@@ -122,8 +125,8 @@ def rank_case(rng, name, column, e) -> TableCase:
 def order_cases(rng):
     """Of each kind of values a short column at every rank, and longer ones, in each order."""
     for kind in KINDS:
-        column = kind(rng, 7)
-        for e in range(7):
+        column = kind(rng, SHORT)
+        for e in range(SHORT):
             yield rank_case(rng, kind.__name__, column, e)
         for order in ORDERS:
             rows = rng.choice((16, 33))

@@ -13,12 +13,12 @@ use lib.Ieee.{Float, binary64, ofInt, toSigned}
 use Rattle.limits.specs.Limits.{inputRoom, longestReport, longestSheet}
 use Rattle.order.specs.Order.{plusZero, finite, smaller, equal}
 use Rattle.order.specs.Counting.{all}
+use Rattle.order.specs.Lists.{rowsOf}
 use Rattle.order.specs.Places.{place}
 use Rattle.order.proofs.Places as places
 use Rattle.select.specs.Rank.{mthSmallest}
 use Rattle.select.specs.Passes.{topBits, leftAt, held}
 use Rattle.select.proofs.Passes as passes
-use Rattle.order.specs.Lists.{rowsOf}
 use Rattle.refusals.specs.Answers.{Checks, First, firstRefusal, afterwards}
 use Rattle.refusals.specs.Limits.{allowance}
 use Rattle.refusals.specs.Buffers.{cleared}
@@ -260,6 +260,6 @@ module _ (m : ℕ) (xs : List Float) (fs : T (all finite xs)) (pos : 0 < m) (man
   pub settled-by-64 : held m xs 64 ≡ place (mthSmallest m xs)
   settled-by-64 = passes.settled m xs fs pos many
 
-  -- bits that all values left share need no pass; where those are equal, none is needed
+  -- bits that all values left share need no pass; where all values left are equal (o = 0), none is needed
   pub shared-settled : (f h o q : ℕ) → h ≡ topBits f (place (mthSmallest m xs)) → T (all (λ x. not (leftAt h f (place x)) || eqb (topBits o (place x)) q) xs) → topBits o (place (mthSmallest m xs)) ≡ q
   shared-settled = passes.shared-bits m xs fs pos many

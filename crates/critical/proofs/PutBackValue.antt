@@ -12,6 +12,7 @@ use Rattle.order.specs.Order.{finite, smaller, withPlusZero}
 use Rattle.order.specs.Counting.{bit, count, all}
 use Rattle.order.specs.Lists.{rowsOf}
 use Rattle.order.proofs.Booleans.{and-left, and-right}
+use Rattle.order.proofs.Infinities.{low, finite-low}
 use Rattle.order.proofs.Keys.{key, key-some}
 use Rattle.order.proofs.Rows.{Finite, rowsOf-sound, Sound}
 use Rattle.select.proofs.Ranks.{above, from, kthLargest-is, mthSmallest-plain}
@@ -22,7 +23,6 @@ use Rattle.method.proofs.Critical.{sets-finite, criticalValue-finite}
 use Rattle.masks.specs.Internal.{CheckedTable}
 use Rattle.masks.proofs.Walks.{valuesFrom, values-all}
 use Rattle.critical.specs.Internal.{larger, bestOf}
-use Rattle.order.proofs.Infinities.{low, finite-low}
 use Rattle.critical.proofs.RowMax.{smaller-low, low-finite}
 
 -- what holds of both holds of the larger

@@ -19,6 +19,7 @@ use Rattle.order.specs.Order.{finite, smaller, withPlusZero}
 use Rattle.order.specs.Counting.{bit, count}
 use Rattle.order.proofs.Booleans.{not-below}
 use Rattle.order.proofs.Counts.{all-getD}
+use Rattle.order.proofs.Infinities.{low, finite-low}
 use Rattle.order.proofs.Keys.{key, key-some, smaller-key, withPlusZero-same}
 use Rattle.order.proofs.Rows.{Finite}
 use Rattle.select.specs.Rank.{kthLargest}
@@ -29,7 +30,6 @@ use Rattle.columns.proofs.Masks.{columnsOf-length}
 use Rattle.method.specs.Method.{kMax}
 use Rattle.critical.specs.Internal.{four, pushed, nth}
 use Rattle.critical.specs.declared.kmax.Top.{Top}
-use Rattle.order.proofs.Infinities.{low, finite-low}
 
 -- a low bound is below a finite value by their keys, minus infinity's being 0
 pub smaller-low : (t x : Float) → T (low t) → T (finite x) → smaller t x ≡ ltb (key t) (key x)

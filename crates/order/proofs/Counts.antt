@@ -1,5 +1,5 @@
 -- Laws of counting.
-use Prim.Native.Nat.{ℕ, zero, suc, _+_, _-_, _≤_, _<_}
+use Prim.Native.Nat.{ℕ, zero, suc, _+_, _≤_, _<_}
 use native.Mathlib.Omega.{arith}
 use mathlib.Core.Path.{_≡_, refl, ap}
 use mathlib.Core.Bool.{Bool, true, false, not, _&&_}
@@ -28,10 +28,6 @@ bit-yes false t = absurd t
 pub bit-T : (b : Bool) → 0 < bit b → T b
 bit-T true h = tt
 bit-T false h = absurd (omega arith)
-
-pub bit-none : (b : Bool) → (T b → ⊥) → bit b ≡ 0
-bit-none true f = absurd (f tt)
-bit-none false f = refl
 
 pub bit-not : (b : Bool) → bit b + bit (not b) ≡ 1
 bit-not true = refl
@@ -101,25 +97,10 @@ module _ {A : Type 0} where
   count-same-all p q l h = count-same (λ _. true) p q l (λ x _. h x) (all-true l)
 
   -- what one test lets by, two others let by between them
-  pub count-sum-le : (r p q s : A → Bool) (l : List A) → ((x : A) → T (r x) → bit (p x) ≤ bit (q x) + bit (s x)) → T (all r l) → count p l ≤ count q l + count s l
-  unfolding count all
-  count-sum-le r p q s [] h t = omega arith
-  count-sum-le r p q s (x ∷ l) h t = omega (arith, h x (and-left (r x) (all r l) t), count-sum-le r p q s l h (and-right (r x) (all r l) t))
-
   pub count-not : (p : A → Bool) (l : List A) → count p l + count (λ x. not (p x)) l ≡ length l
   unfolding count
   count-not p [] = refl
   count-not p (x ∷ l) = omega (arith, bit-not (p x), count-not p l)
-
-  pub count-none : (l : List A) → count (λ _. false) l ≡ 0
-  unfolding count
-  count-none [] = refl
-  count-none (x ∷ l) = omega (arith, count-none l)
-
-  pub count-all : (l : List A) → count (λ _. true) l ≡ length l
-  unfolding count
-  count-all [] = refl
-  count-all (x ∷ l) = omega (arith, count-all l)
 
   pub count-length : (p : A → Bool) (l : List A) → count p l ≤ length l
   count-length p l = omega (arith, count-not p l)

@@ -1,5 +1,6 @@
 -- Finite values as natural numbers in the same order, so that facts on the order are facts on numbers.
 --   key x            the number x in units of the smallest positive value, shifted so that it is never negative
+--   mag, signed      a magnitude in these units, and so many above or below zero's key; mag-lt, zero-mag, no-mag: its bound, and zero's
 --   smaller-key      x is smaller than y exactly where its key is
 --   atMost-key       the same of at most; equal-key: equal numbers have one key
 --   withPlusZero-same    finite values with one key differ at most in the sign of zero
@@ -158,7 +159,7 @@ level-not true true a b = go (decLt b a) (decLt a b)
     go (no g) (yes h) = rw (le-ltb b a (omega arith), lt-ltb a b h, ne-eqb a b (λ q. omega arith))
     go (no g) (no h) = rw (le-ltb a b (omega (arith, h)), le-ltb b a (omega (arith, g)), eq-eqb a b (omega (arith, g, h)))
 
-pub atMost-not : (x y : Float) → T (finite x) → T (finite y) → atMost x y ≡ not (smaller y x)
+atMost-not : (x y : Float) → T (finite x) → T (finite y) → atMost x y ≡ not (smaller y x)
 unfolding finite le lt eq
 atMost-not nan y p q = absurd p
 atMost-not (inf s) y p q = absurd p

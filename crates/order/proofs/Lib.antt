@@ -4,7 +4,10 @@ pub mod Lists
 pub mod Slices
 pub mod Keys
 pub mod Infinities
+pub mod Patterns
 pub mod Places
+pub mod ValueAt
+pub mod SharedBits
 pub mod Rows
 pub mod Signed
 pub mod Powers

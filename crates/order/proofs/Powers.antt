@@ -2,7 +2,7 @@
 --   bit-is       one, shifted by less than the width
 --   pow-parts    a power in two parts
 --   top-room     what lies above the lowest bits of a number leaves room for them
-use Prim.Native.Nat.{ℕ, suc, _+_, _-_, _*_, _/_, _%_, _^_, _≤_, _<_}
+use Prim.Native.Nat.{ℕ, _+_, _-_, _*_, _/_, _%_, _^_, _≤_, _<_}
 use native.Mathlib.Omega.{arith}
 use native.Mathlib.Nat.{one-mul, suc-mul, mod-eq-of-lt, mul-le-mul-right, div-lt-iff-lt-mul}
 use mathlib.Core.Path.{_≡_, sym, ap, _∙_}

@@ -30,13 +30,13 @@ module _ {A : Type 0} (p : A → Bool) (xs : List A) (i : ℕ) (d : A) where
   unfolding count
   count-more h = rw (add-one, drop-cons xs i d)
 
-  pub count-in : i < length xs → p (getD xs i d) ≡ true → count p (drop i xs) ≡ 1 + count p (drop (i + 1) xs)
+  count-in : i < length xs → p (getD xs i d) ≡ true → count p (drop i xs) ≡ 1 + count p (drop (i + 1) xs)
   count-in h e = count-more h ∙ ap (λ (b : Bool). bit b + count p (drop (i + 1) xs)) e
 
-  pub count-past : i < length xs → p (getD xs i d) ≡ false → count p (drop i xs) ≡ 0 + count p (drop (i + 1) xs)
+  count-past : i < length xs → p (getD xs i d) ≡ false → count p (drop i xs) ≡ 0 + count p (drop (i + 1) xs)
   count-past h e = count-more h ∙ ap (λ (b : Bool). bit b + count p (drop (i + 1) xs)) e
 
-  pub count-end : length xs ≤ i → count p (drop i xs) ≡ 0
+  count-end : length xs ≤ i → count p (drop i xs) ≡ 0
   unfolding count
   count-end h = rw drop-of-length-le
 

@@ -2,7 +2,7 @@
 --   bitsPlace b     the place of a bit pattern: the sign's bit set where it is clear, and all bits turned where it is set
 --   place x         the place of a value: that of its bits, and minus zero takes the place of zero
 --   placeBits p     the bit pattern at a place
---   valueAt p       the value at a place; minus infinity below the finite values' places, and infinity above them
+--   valueAt p       the value at a place, minus zero at the one below zero's; minus infinity below the finite values' places, and infinity above them
 use Prim.Native.Nat.{ℕ, _+_, _-_, _^_}
 use mathlib.Core.Bool.{true, false, cond}
 use lib.Dec.{ltb, leb}

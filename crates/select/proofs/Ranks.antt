@@ -34,7 +34,7 @@ above-is xs v fs f = count-same finite (λ x. smaller v x) (λ x. ltb (key v) (k
 pub from-is : (xs : List Float) (v : Float) → Finite xs → T (finite v) → count (λ x. atMost v x) xs ≡ from (key v) xs
 from-is xs v fs f = count-same finite (λ x. atMost v x) (λ x. leb (key v) (key x)) xs (λ x g. atMost-key v x f g) fs
 
-pub under-is : (xs : List Float) (v : Float) → Finite xs → T (finite v) → count (λ x. smaller x v) xs + from (key v) xs ≡ length xs
+under-is : (xs : List Float) (v : Float) → Finite xs → T (finite v) → count (λ x. smaller x v) xs + from (key v) xs ≡ length xs
 under-is xs v fs f =
     omega (
       arith,
@@ -46,7 +46,7 @@ under-is xs v fs f =
 pub keys-upTo : (xs : List Float) (v : ℕ) → count (λ x. leb (key x) v) xs + above v xs ≡ length xs
 keys-upTo xs v = omega (arith, count-same-all (λ x. leb (key x) v) (λ x. not (ltb v (key x))) xs (λ x. leb-not (key x) v), count-not (λ x. ltb v (key x)) xs)
 
-pub upTo-is : (xs : List Float) (v : Float) → Finite xs → T (finite v) → count (λ x. atMost x v) xs + above (key v) xs ≡ length xs
+upTo-is : (xs : List Float) (v : Float) → Finite xs → T (finite v) → count (λ x. atMost x v) xs + above (key v) xs ≡ length xs
 upTo-is xs v fs f =
     omega (arith, count-same finite (λ x. atMost x v) (λ x. leb (key x) (key v)) xs (λ x g. atMost-key x v g f) fs, keys-upTo xs (key v))
 
@@ -220,10 +220,6 @@ module _ (m : ℕ) (xs : List Float) (fs : Finite xs) (pos : 0 < m) (held : m �
 
   pub mthSmallest-holds : (p : Float → Bool) → T (all (λ x. p (withPlusZero x)) xs) → T (p (mthSmallest m xs))
   mthSmallest-holds p t = rw mthSmallest-top (kthLargest-holds (suc (length xs) - m) xs fs (omega arith) (omega arith) p t)
-
-  -- whatever ranks so from the bottom is the m-th smallest
-  pub mthSmallest-is : (w : Float) → Ranks (suc (length xs) - m) xs w → w ≡ mthSmallest m xs
-  mthSmallest-is w r = kthLargest-is (suc (length xs) - m) xs fs (omega arith) (omega arith) w r ∙ sym mthSmallest-top
 
 -- the (n - e)-th smallest of n is above v exactly where more than e members are
 pub mthSmallest-above : (n e : ℕ) (xs : List Float) → Finite xs → length xs ≡ n → e < n → (v : ℕ) → (v < key (mthSmallest (n - e) xs)) ↔ (e < above v xs)

@@ -1,9 +1,9 @@
 -- What the steps of the selection give.
 --   bits-reach, rest-fits, cleared-is          how many bits a number has, and a number with its lowest bits zero
 --   past-end, past-next                        the value at the first place after those that are left
---   any-.., every-..                           the bits that some patterns have set, and those that all have
+--   smaller-number                             what is smaller than anything is a number
+--   gathered-..                                the bits that some patterns have set, and those that all have
 --   none-held                                  before any pass
---   lower-is                                   a count of smaller values is one of lower places
 --   room, pass-room, pass-set, pass-clear      one pass
 --   narrow                                     bits that all values left share
 --   none-free                                  after the last pass
@@ -12,7 +12,7 @@ use native.Mathlib.Omega.{arith}
 use native.Mathlib.Nat.{div-eq-of-lt, pow-suc}
 use native.Mathlib.Numerals.{add-one}
 use mathlib.Core.Path.{_≡_, refl, sym, ap, subst, _∙_}
-use mathlib.Core.Bool.{Bool, true, false, not, cond, _&&_, _||_}
+use mathlib.Core.Bool.{Bool, true, false, not, _&&_, _||_}
 use mathlib.Core.List.{List, [], _∷_}
 use lib.ListN.{length, getD, drop, drop-of-length-le}
 use lib.Seq.{drop-cons}
@@ -27,16 +27,16 @@ use Rattle.order.specs.Counting.{count, all}
 use Rattle.order.specs.Places.{place, bitsPlace, valueAt}
 use Rattle.order.proofs.Booleans.{never, true-T, and-left, and-right, and-both}
 use Rattle.order.proofs.Counts.{all-le, all-both, count-same}
-use Rattle.order.proofs.Keys.{zero-finite}
-use Rattle.order.proofs.Places.{place-fits, place-shares, below-valueAt, valueAt-high}
+use Rattle.order.proofs.Places.{place-fits}
+use Rattle.order.proofs.ValueAt.{below-valueAt, valueAt-high}
+use Rattle.order.proofs.SharedBits.{place-shares}
 use Rattle.order.proofs.Powers.{top-room}
 use Rattle.order.proofs.Rows.{Finite}
 use Rattle.select.specs.Rank.{mthSmallest}
 use Rattle.select.specs.Passes.{lower, topBits, leftAt, passed}
-use Rattle.select.specs.Internal.{chosen, anyBits, everyBits, Holds}
+use Rattle.select.specs.Internal.{chosen, gathered, anyBits, everyBits, Holds}
 use Rattle.select.specs.declared.smallest.Held.{Held}
 use Rattle.select.proofs.Passes.{answer-finite, one-pass, shared-bits}
-use Rattle.select.proofs.Ranks.{mthSmallest-keeps}
 
 -- ---- bits of a number
 
@@ -88,52 +88,42 @@ xor-top o a b c l h g =
     let e : a / 2 ^ o ≡ b / 2 ^ o = xor-none (a / 2 ^ o) (b / 2 ^ o) (sym (xor-shr a b o) ∙ div-eq-of-lt l) in
     omega (arith, shr-mono o h, shr-mono o g)
 
-module _ (lo hi : Float) where
-  any-grows : (d : ℕ) (xs : List Float) → d ≤ anyBits lo hi d xs
-  unfolding anyBits
-  any-grows d [] = omega arith
-  any-grows d (x ∷ xs) = omega (arith, or-left d (chosen lo hi x 0), any-grows (bitOr d (chosen lo hi x 0)) xs)
+-- where joining with f only leads on along r, what is chosen of each member comes before the whole
+module _ (f : ℕ → ℕ → ℕ) (lo hi : Float) (none : ℕ) where
+  module _ (r : ℕ → ℕ → Bool) (same : (a : ℕ) → T (r a a)) (trans : (a b c : ℕ) → T (r a b) → T (r b c) → T (r a c)) (on-left : (a b : ℕ) → T (r a (f a b))) (on-right : (a b : ℕ) → T (r b (f a b))) where
+    leads-on : (d : ℕ) (xs : List Float) → T (r d (gathered f lo hi none d xs))
+    unfolding gathered
+    leads-on d [] = same d
+    leads-on d (x ∷ xs) = let c = chosen lo hi x none in trans d (f d c) (gathered f lo hi none (f d c) xs) (on-left d c) (leads-on (f d c) xs)
 
-  every-falls : (d : ℕ) (xs : List Float) → everyBits lo hi d xs ≤ d
-  unfolding everyBits
-  every-falls d [] = omega arith
-  every-falls d (x ∷ xs) = omega (arith, and-le-l d (chosen lo hi x (2 ^ 64 - 1)), every-falls (bitAnd d (chosen lo hi x (2 ^ 64 - 1))) xs)
-
-  any-all : (d : ℕ) (xs : List Float) (n : ℕ) → anyBits lo hi d xs ≤ n → T (all (λ x. leb (chosen lo hi x 0) n) xs)
-  unfolding anyBits all
-  any-all d [] n h = tt
-  any-all d (x ∷ xs) n h =
-      let c = chosen lo hi x 0 in
-      and-both (leb c n) (all (λ x. leb (chosen lo hi x 0) n) xs) (le→leb c n (omega (arith, or-right d c, any-grows (bitOr d c) xs))) (any-all (bitOr d c) xs n h)
-
-  every-all : (d : ℕ) (xs : List Float) (n : ℕ) → n ≤ everyBits lo hi d xs → T (all (λ x. leb n (chosen lo hi x (2 ^ 64 - 1))) xs)
-  unfolding everyBits all
-  every-all d [] n h = tt
-  every-all d (x ∷ xs) n h =
-      let c = chosen lo hi x (2 ^ 64 - 1) in
-      and-both (leb n c) (all (λ x. leb n (chosen lo hi x (2 ^ 64 - 1))) xs) (le→leb n c (omega (arith, and-le-r d c, every-falls (bitAnd d c) xs))) (every-all (bitAnd d c) xs n h)
+    gathered-all : (d : ℕ) (xs : List Float) (n : ℕ) → gathered f lo hi none d xs ≡ n → T (all (λ x. r (chosen lo hi x none) n) xs)
+    unfolding gathered all
+    gathered-all d [] n e = tt
+    gathered-all d (x ∷ xs) n e =
+        let c = chosen lo hi x none in
+        and-both (r c n) (all (λ x. r (chosen lo hi x none) n) xs) (subst (λ (k : ℕ). T (r c k)) e (trans c (f d c) (gathered f lo hi none (f d c) xs) (on-right d c) (leads-on (f d c) xs))) (gathered-all (f d c) xs n e)
 
   -- one value more, and none
   module _ (xs : List Float) (i d : ℕ) {s : ℕ} where
-    pub any-turn : {c : ℕ} → i < length xs → c ≡ chosen lo hi (getD xs i nan) 0 → anyBits lo hi d (drop i xs) ≡ s → anyBits lo hi (bitOr d c) (drop (i + 1) xs) ≡ s
-    unfolding anyBits
-    any-turn h e q =
+    pub gathered-turn : {c : ℕ} → i < length xs → c ≡ chosen lo hi (getD xs i nan) none → gathered f lo hi none d (drop i xs) ≡ s → gathered f lo hi none (f d c) (drop (i + 1) xs) ≡ s
+    unfolding gathered
+    gathered-turn h e q =
         let more : drop i xs ≡ getD xs i nan ∷ drop (i + 1) xs = rw (add-one, drop-cons xs i nan) in
-        ap (λ (z : ℕ). anyBits lo hi (bitOr d z) (drop (i + 1) xs)) e ∙ sym (ap (anyBits lo hi d) more) ∙ q
+        ap (λ (z : ℕ). gathered f lo hi none (f d z) (drop (i + 1) xs)) e ∙ sym (ap (gathered f lo hi none d) more) ∙ q
 
-    pub every-turn : {c : ℕ} → i < length xs → c ≡ chosen lo hi (getD xs i nan) (2 ^ 64 - 1) → everyBits lo hi d (drop i xs) ≡ s → everyBits lo hi (bitAnd d c) (drop (i + 1) xs) ≡ s
-    unfolding everyBits
-    every-turn h e q =
-        let more : drop i xs ≡ getD xs i nan ∷ drop (i + 1) xs = rw (add-one, drop-cons xs i nan) in
-        ap (λ (z : ℕ). everyBits lo hi (bitAnd d z) (drop (i + 1) xs)) e ∙ sym (ap (everyBits lo hi d) more) ∙ q
+    pub gathered-end : length xs ≤ i → gathered f lo hi none d (drop i xs) ≡ s → d ≡ s
+    unfolding gathered
+    gathered-end h q = let end : drop i xs ≡ [] = rw drop-of-length-le in sym (ap (gathered f lo hi none d) end) ∙ q
 
-    pub any-end : length xs ≤ i → anyBits lo hi d (drop i xs) ≡ s → d ≡ s
-    unfolding anyBits
-    any-end h q = let none : drop i xs ≡ [] = rw drop-of-length-le in sym (ap (anyBits lo hi d) none) ∙ q
+any-all : (lo hi : Float) (xs : List Float) (n : ℕ) → n ≡ anyBits lo hi xs → T (all (λ x. leb (chosen lo hi x 0) n) xs)
+any-all lo hi xs n e =
+    gathered-all bitOr lo hi 0 leb (λ a. le→leb a a (omega arith)) (λ a b c s t. le→leb a c (omega (arith, leb→le a b s, leb→le b c t)))
+    (λ a b. le→leb a (bitOr a b) (or-left a b)) (λ a b. le→leb b (bitOr a b) (or-right a b)) 0 xs n (sym e)
 
-    pub every-end : length xs ≤ i → everyBits lo hi d (drop i xs) ≡ s → d ≡ s
-    unfolding everyBits
-    every-end h q = let none : drop i xs ≡ [] = rw drop-of-length-le in sym (ap (everyBits lo hi d) none) ∙ q
+every-all : (lo hi : Float) (xs : List Float) (n : ℕ) → n ≡ everyBits lo hi xs → T (all (λ x. leb n (chosen lo hi x (2 ^ 64 - 1))) xs)
+every-all lo hi xs n e =
+    gathered-all bitAnd lo hi (2 ^ 64 - 1) (λ a b. leb b a) (λ a. le→leb a a (omega arith)) (λ a b c s t. le→leb c a (omega (arith, leb→le b a s, leb→le c b t)))
+    (λ a b. le→leb (bitAnd a b) a (and-le-l a b)) (λ a b. le→leb (bitAnd a b) b (and-le-r a b)) (2 ^ 64 - 1) xs n (sym e)
 
 or-if : (b c : Bool) → (T b → T c) → T (not b || c)
 or-if true c f = f tt
@@ -142,16 +132,16 @@ or-if false c f = tt
 -- ---- before any pass
 
 pub none-held : (m : ℕ) (xs : List Float) → Finite xs → (u v : ℕ) → Holds m xs (record { place = 0; free = 64; under = u; upto = v })
-none-held m xs fs u v = record { bits = omega arith; top = sym (ap (λ (q : ℕ). q * 2 ^ 64) (div-eq-of-lt (place-fits (mthSmallest m xs) (mthSmallest-keeps finite zero-finite m xs fs)))) }
+none-held m xs fs u v = record { bits = omega arith; top = sym (ap (λ (q : ℕ). q * 2 ^ 64) (div-eq-of-lt (place-fits (mthSmallest m xs) (answer-finite m xs fs)))) }
 
 -- ---- one pass
 
-pub lower-is : (xs : List Float) → Finite xs → (p : ℕ) → count (λ x. smaller x (valueAt p)) xs ≡ lower p xs
+lower-is : (xs : List Float) → Finite xs → (p : ℕ) → count (λ x. smaller x (valueAt p)) xs ≡ lower p xs
 lower-is xs fs p = count-same finite (λ x. smaller x (valueAt p)) (λ x. ltb (place x) p) xs (λ x f. below-valueAt p x f) fs
 
 module _ (m : ℕ) (xs : List Float) (fs : Finite xs) (pos : 0 < m) (many : m ≤ length xs) (h : Held) (s : Holds m xs h) where
   pub room : h .place + 2 ^ h .free ≤ 2 ^ 64
-  room = rw (s .top) (top-room 64 (h .free) (place (mthSmallest m xs)) (s .bits) (place-fits (mthSmallest m xs) (answer-finite m xs fs pos many)))
+  room = rw (s .top) (top-room 64 (h .free) (place (mthSmallest m xs)) (s .bits) (place-fits (mthSmallest m xs) (answer-finite m xs fs)))
 
   module _ (g : 0 < h .free) (o w : ℕ) (eo : o ≡ h .free - 1) (ew : w ≡ 2 ^ o) where
     twice : 2 ^ h .free ≡ w + w
@@ -186,7 +176,7 @@ module _ (m : ℕ) (xs : List Float) (fs : Finite xs) (pos : 0 < m) (many : m �
 
   -- ---- bits that all values left share
 
-  module _ {lo hi : Float} (el : lo ≡ valueAt (h .place)) (eh : hi ≡ valueAt (h .place + 2 ^ h .free)) (any every : ℕ) (ea : any ≡ anyBits lo hi 0 xs) (ee : every ≡ everyBits lo hi (2 ^ 64 - 1) xs)
+  module _ {lo hi : Float} (el : lo ≡ valueAt (h .place)) (eh : hi ≡ valueAt (h .place + 2 ^ h .free)) (any every : ℕ) (ea : any ≡ anyBits lo hi xs) (ee : every ≡ everyBits lo hi xs)
       (fit : any < 2 ^ 64) (o : ℕ) (few : o ≤ 64) (reach : bitXor any every < 2 ^ o) where
     -- a value left is not below lo, and below hi
     chosen-is : (x : Float) → T (finite x) → T (leftAt (h .place) (h .free) (place x)) → (d : ℕ) → chosen lo hi x d ≡ toBits binary64 (withPlusZero x)
@@ -208,7 +198,7 @@ module _ (m : ℕ) (xs : List Float) (fs : Finite xs) (pos : 0 < m) (many : m �
     shared =
         all-le (λ x. finite x && (leb (chosen lo hi x 0) any && leb every (chosen lo hi x (2 ^ 64 - 1)))) (λ x. not (leftAt (h .place) (h .free) (place x)) || eqb (topBits o (place x)) (topBits o (bitsPlace any))) xs each
         (all-both finite (λ x. leb (chosen lo hi x 0) any && leb every (chosen lo hi x (2 ^ 64 - 1))) xs fs
-        (all-both (λ x. leb (chosen lo hi x 0) any) (λ x. leb every (chosen lo hi x (2 ^ 64 - 1))) xs (any-all lo hi 0 xs any (omega arith)) (every-all lo hi (2 ^ 64 - 1) xs every (omega arith))))
+        (all-both (λ x. leb (chosen lo hi x 0) any) (λ x. leb every (chosen lo hi x (2 ^ 64 - 1))) xs (any-all lo hi xs any ea) (every-all lo hi xs every ee)))
       where
         each : (x : Float) → T (finite x && (leb (chosen lo hi x 0) any && leb every (chosen lo hi x (2 ^ 64 - 1)))) → T (not (leftAt (h .place) (h .free) (place x)) || eqb (topBits o (place x)) (topBits o (bitsPlace any)))
         each x t =

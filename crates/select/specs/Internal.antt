@@ -1,8 +1,9 @@
 -- Definitions that only the inner functions cite. Definitions only; a reader of the promises needs none of them.
---   chosen lo hi x d      the pattern of x, with plus zero for either zero, where x is not below lo, and below hi; d elsewhere
---   anyBits lo hi d xs    d with every bit that is set in the pattern of some such member
---   everyBits lo hi d xs  d without the bits that are clear in the pattern of some such member
---   Holds m xs h          h holds the place of the m-th smallest, but for its free bits
+--   chosen lo hi x none   the pattern of x, with plus zero for either zero, where x is not below lo, and below hi; `none` elsewhere
+--   gathered f lo hi none d xs     d joined by f, member after member, with what is chosen of each
+--   anyBits lo hi xs      the bits that are set in the pattern of some such member
+--   everyBits lo hi xs    the bits that are set in the pattern of every such member
+--   Holds m xs h          h holds the place of the m-th smallest, but for its free bits, at most 64
 use Prim.Native.Nat.{ℕ, _-_, _^_, _≤_}
 use mathlib.Core.Path.{_≡_}
 use mathlib.Core.Bool.{cond}
@@ -17,17 +18,18 @@ use Rattle.select.specs.declared.smallest.Held.{Held}
 
 unfoldable pub chosen : Float → Float → Float → ℕ → ℕ
 unfolding withPlusZero toBits
-chosen lo hi x d = cond (smaller x lo) d (cond (smaller x hi) (toBits binary64 (withPlusZero x)) d)
+chosen lo hi x none = cond (smaller x lo) none (cond (smaller x hi) (toBits binary64 (withPlusZero x)) none)
 
-unfoldable pub anyBits : Float → Float → ℕ → List Float → ℕ
+unfoldable pub gathered : (ℕ → ℕ → ℕ) → Float → Float → ℕ → ℕ → List Float → ℕ
 unfolding chosen
-anyBits lo hi d [] = d
-anyBits lo hi d (x ∷ xs) = anyBits lo hi (bitOr d (chosen lo hi x 0)) xs
+gathered f lo hi none d [] = d
+gathered f lo hi none d (x ∷ xs) = gathered f lo hi none (f d (chosen lo hi x none)) xs
 
-unfoldable pub everyBits : Float → Float → ℕ → List Float → ℕ
-unfolding chosen
-everyBits lo hi d [] = d
-everyBits lo hi d (x ∷ xs) = everyBits lo hi (bitAnd d (chosen lo hi x (2 ^ 64 - 1))) xs
+abbrev pub anyBits : Float → Float → List Float → ℕ
+anyBits lo hi xs = gathered bitOr lo hi 0 0 xs
+
+abbrev pub everyBits : Float → Float → List Float → ℕ
+everyBits lo hi xs = gathered bitAnd lo hi (2 ^ 64 - 1) (2 ^ 64 - 1) xs
 
 pub record Holds (m : ℕ) (xs : List Float) (h : Held) : Type 0 where
   pub bits : h .free ≤ 64

@@ -3,7 +3,7 @@
 --   topBits o p       p with its o lowest bits zero
 --   leftAt h f p      p is one of the places that are left where h is held and the f lowest bits are free
 --   passed m xs o h   what is held after the pass that settles bit o: h with that bit, where fewer than m members stand below it, and h where not
---   held m xs p       what is held after p passes
+--   held m xs p       what is held after p passes, p up to 64
 use Prim.Native.Nat.{ℕ, zero, suc, _+_, _-_, _*_, _/_, _^_}
 use mathlib.Core.Bool.{Bool, cond, _&&_}
 use mathlib.Core.List.{List}

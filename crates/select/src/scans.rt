@@ -1,6 +1,5 @@
 // One look at all values each: loops that compare with thresholds and depend on nothing else, so that they become vector instructions.
 ghost use mathlib.Core.Path.{_≡_};
-ghost use Prim.Native.Nat.{_-_, _^_};
 ghost use Rattle.order.specs.Order.{smaller};
 ghost use Rattle.order.specs.Counting.{count};
 ghost use Rattle.select.specs.Internal.{chosen, anyBits, everyBits};
@@ -33,14 +32,15 @@ fn pattern(lo: f64, hi: f64, x: f64, none: u64) -> u64
     none
 }
 
-// The bits that are set in some of the patterns from lo to below hi, and those that are set in all of them.
+// Bits of several patterns: those that are set in some of them, and those that are set in all.
 pub struct Patterns {
     pub any: u64,
     pub every: u64,
 }
 
+// The bits of all patterns from lo to below hi.
 pub(crate) fn gather(xs: &[f64], lo: f64, hi: f64) -> Patterns
-    ensures { λ r. ⌜ (r .any ≡ anyBits lo hi 0 (now (xs .entry))) × (r .every ≡ everyBits lo hi (2 ^ 64 - 1) (now (xs .entry))) ⌝ }
+    ensures { λ r. ⌜ (r .any ≡ anyBits lo hi (now (xs .entry))) × (r .every ≡ everyBits lo hi (now (xs .entry))) ⌝ }
 {
     let mut any: u64 = 0;
     let mut every: u64 = 0xFFFF_FFFF_FFFF_FFFF;

@@ -79,7 +79,7 @@ fn pass(xs: &[f64], m: usize, h: Held) -> Held
     }
 }
 
-// Bits that all values left share need no pass: it is left with those from the highest in which they differ. Where they are equal there is none.
+// Bits that all values left share need no pass: free stay those from the highest in which some of them differ, and none where all are equal.
 fn narrowed(xs: &[f64], m: usize, h: Held) -> Held
     requires { ⌜ T (all finite (now xs)) × (0 < m) × (m ≤ length (now xs)) × Holds m (now xs) h × (h .free < 64) ⌝ }
     ensures { λ r. ⌜ (r .free ≤ h .free) × Holds m (now (xs .entry)) r ⌝ }
@@ -98,9 +98,12 @@ fn narrowed(xs: &[f64], m: usize, h: Held) -> Held
     h
 }
 
-// Whether to look for bits that all values left share: once the sign is settled, if one value is left, and at every second bit if a pass told none apart.
-// Either answer is right.
+// Whether to look for bits that all values left share: once the sign is settled, if one value is left, and at every fourth bit if a pass told none apart;
+// not for the last bit, which a pass settles sooner. Either answer is right.
 fn worth_a_look(before: Held, h: Held) -> bool {
+    if h.free < 2 {
+        return false;
+    }
     if h.free == 63 {
         return true;
     }
@@ -111,7 +114,7 @@ fn worth_a_look(before: Held, h: Held) -> bool {
     }
     if h.under == before.under {
         if h.upto == before.upto {
-            return h.free % 2 == 0;
+            return h.free % 4 == 0;
         }
     }
     false

@@ -21,6 +21,7 @@ use Rattle.order.specs.Counting.{all}
 use Rattle.order.specs.Lists.{rowsOf, padded}
 use Rattle.order.proofs.Counts.{all-getD}
 use Rattle.order.proofs.Booleans.{never, true-T}
+use Rattle.order.proofs.Infinities.{all-below}
 use Rattle.order.proofs.Keys.{key, smaller-key}
 use Rattle.order.proofs.Lists.{part-rows, rowsOf-length, row-entry, padded-length}
 use Rattle.order.proofs.Rows.{Sound, soundRow, sound-length, sound-finite, rowsOf-sound}
@@ -30,7 +31,6 @@ use Rattle.columns.proofs.Masks.{columnsOf-length}
 use Rattle.columns.proofs.Remaining.{left-all}
 use Rattle.masks.specs.Internal.{CheckedTable}
 use Rattle.masks.proofs.Parts.{part-length, part-row}
-use Rattle.order.proofs.Infinities.{all-below}
 use Rattle.adjustment.specs.Passes.{topColumn, needed, kMaxFrom, kMaxPass}
 use Rattle.tableadjustment.specs.Internal.{Passable, Raising, orderFrom, rowsHit}
 use Rattle.adjustment.proofs.Needed.{needed-falls}

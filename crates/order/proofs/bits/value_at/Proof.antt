@@ -3,7 +3,7 @@ use borrow.Author.Needs.{needs}
 use lib.Ieee.{nanBits, ofBits, toBits}
 use Rattle.order.specs.Order.{withPlusZero}
 use Rattle.order.specs.Places.{place, bitsPlace}
-use Rattle.order.proofs.Places.{valueAt-high, valueAt-low, valueAt-number, valueAt-within}
+use Rattle.order.proofs.ValueAt.{valueAt-high, valueAt-low, valueAt-number, valueAt-within}
 use Rattle.order.proofs.bits.value_at.Statement.{statement}
 use Rattle.order.proofs.bits.value_at.Tie as tie
 
