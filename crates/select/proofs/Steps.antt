@@ -5,7 +5,7 @@
 --   gathered-..                                the bits that some patterns have set, and those that all have
 --   none-held                                  before any pass
 --   room, pass-room, pass-set, pass-clear      one pass
---   narrow                                     bits that all values left share
+--   narrow, waits                              bits that all values left share, or none
 --   none-free                                  after the last pass
 use Prim.Native.Nat.{ℕ, zero, suc, _+_, _-_, _*_, _/_, _%_, _^_, _≤_, _<_}
 use native.Mathlib.Omega.{arith}
@@ -131,8 +131,8 @@ or-if false c f = tt
 
 -- ---- before any pass
 
-pub none-held : (m : ℕ) (xs : List Float) → Finite xs → (u v : ℕ) → Holds m xs (record { place = 0; free = 64; under = u; upto = v })
-none-held m xs fs u v = record { bits = omega arith; top = sym (ap (λ (q : ℕ). q * 2 ^ 64) (div-eq-of-lt (place-fits (mthSmallest m xs) (answer-finite m xs fs)))) }
+pub none-held : (m : ℕ) (xs : List Float) → Finite xs → (u v w : ℕ) → Holds m xs (record { place = 0; free = 64; under = u; upto = v; wait = w })
+none-held m xs fs u v w = record { bits = omega arith; top = sym (ap (λ (q : ℕ). q * 2 ^ 64) (div-eq-of-lt (place-fits (mthSmallest m xs) (answer-finite m xs fs)))) }
 
 -- ---- one pass
 
@@ -162,15 +162,15 @@ module _ (m : ℕ) (xs : List Float) (fs : Finite xs) (pos : 0 < m) (many : m �
       next : passed m xs o (h .place) ≡ topBits o (place (mthSmallest m xs))
       next = one-pass m xs fs pos many o (h .place) (s .top ∙ ap (λ (z : ℕ). topBits z (place (mthSmallest m xs))) (omega arith))
 
-      pub pass-set : n < m → (p ≡ passed m xs (h .free - 1) (h .place)) × (o ≡ h .free - 1) × Holds m xs (record { place = p; free = o; under = n; upto = h .upto })
+      pub pass-set : n < m → (t : ℕ) → (p ≡ passed m xs (h .free - 1) (h .place)) × (o ≡ h .free - 1) × Holds m xs (record { place = p; free = o; under = n; upto = h .upto; wait = t })
       unfolding passed
-      pass-set l =
+      pass-set l t =
           let e : p ≡ passed m xs o (h .place) = rw (there, lt-ltb (lower p xs) m (omega (arith, counted))) in
           (e ∙ ap (λ (z : ℕ). passed m xs z (h .place)) eo, eo, record { bits = omega (arith, s .bits); top = e ∙ next })
 
-      pub pass-clear : m ≤ n → (h .place ≡ passed m xs (h .free - 1) (h .place)) × (o ≡ h .free - 1) × Holds m xs (record { place = h .place; free = o; under = h .under; upto = n })
+      pub pass-clear : m ≤ n → (t : ℕ) → (h .place ≡ passed m xs (h .free - 1) (h .place)) × (o ≡ h .free - 1) × Holds m xs (record { place = h .place; free = o; under = h .under; upto = n; wait = t })
       unfolding passed
-      pass-clear l =
+      pass-clear l t =
           let e : h .place ≡ passed m xs o (h .place) = rw (there, le-ltb (lower p xs) m (omega (arith, counted))) in
           (e ∙ ap (λ (z : ℕ). passed m xs z (h .place)) eo, eo, record { bits = omega (arith, s .bits); top = e ∙ next })
 
@@ -207,8 +207,12 @@ module _ (m : ℕ) (xs : List Float) (fs : Finite xs) (pos : 0 < m) (many : m �
             let b = and-right (finite x) (A && E) t in
             or-if (leftAt (h .place) (h .free) (place x)) (eqb (topBits o (place x)) (topBits o (bitsPlace any))) (λ l. true-T (eqb (topBits o (place x)) (topBits o (bitsPlace any))) (eq-eqb (topBits o (place x)) (topBits o (bitsPlace any)) (shares x (and-left (finite x) (A && E) t) (and-left A E b) (and-right A E b) l)))
 
-    pub narrow : (p u v : ℕ) → p ≡ topBits o (bitsPlace any) → Holds m xs (record { place = p; free = o; under = u; upto = v })
-    narrow p u v e = record { bits = few; top = e ∙ sym (shared-bits m xs fs pos many (h .free) (h .place) o (topBits o (bitsPlace any)) (s .top) shared) }
+    pub narrow : (p u v w : ℕ) → p ≡ topBits o (bitsPlace any) → Holds m xs (record { place = p; free = o; under = u; upto = v; wait = w })
+    narrow p u v w e = record { bits = few; top = e ∙ sym (shared-bits m xs fs pos many (h .free) (h .place) o (topBits o (bitsPlace any)) (s .top) shared) }
+
+-- a look in vain
+pub waits : (m : ℕ) (xs : List Float) (h : Held) → Holds m xs h → (w : ℕ) → Holds m xs (record { place = h .place; free = h .free; under = h .under; upto = h .upto; wait = w })
+waits m xs h s w = record { bits = s .bits; top = s .top }
 
 -- ---- no bit is free any more
 

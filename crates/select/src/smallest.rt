@@ -12,12 +12,13 @@ ghost use Rattle.select.specs.Passes.{topBits, passed};
 ghost use Rattle.select.specs.Internal.{Holds};
 
 // The place of the m-th smallest, but for its lowest `free` bits, which are zero here: it is one of the places that are left.
-// Of the values, `under` stand below those places, and `upto` in them or below: these two only tell when `narrowed` pays.
+// The rest only tells when `narrowed` pays: of the values, `under` stand below those places, and `upto` in them or below; no look while more than `wait` bits are free.
 pub struct Held {
     pub place: u64,
     pub free: usize,
     pub under: usize,
     pub upto: usize,
+    pub wait: usize,
 }
 
 // Bit j alone.
@@ -55,6 +56,18 @@ fn value_past(place: u64, free: usize) -> f64
     order::value_at(last + 1)
 }
 
+// How long to wait for a look: not at all once a quarter of the values left is gone, or else as before. Any answer is right.
+fn wait_after(h: Held, under: usize, upto: usize) -> usize {
+    if under <= upto {
+        if h.under <= h.upto {
+            if upto - under <= (h.upto - h.under) / 4 * 3 {
+                return 64;
+            }
+        }
+    }
+    h.wait
+}
+
 // One pass, one bit more: it is set where fewer than m values stand below the place with it set.
 fn pass(xs: &[f64], m: usize, h: Held) -> Held
     requires { ⌜ T (all finite (now xs)) × (0 < m) × (m ≤ length (now xs)) × Holds m (now xs) h × (0 < h .free) ⌝ }
@@ -64,22 +77,27 @@ fn pass(xs: &[f64], m: usize, h: Held) -> Held
     let place = h.place + bit(free);
     let n = scans::count_below(xs, order::value_at(place));
     if n < m {
+        let wait = wait_after(h, n, h.upto);
         return Held {
             place,
             free,
             under: n,
             upto: h.upto,
+            wait,
         };
     }
+    let wait = wait_after(h, h.under, n);
     Held {
         place: h.place,
         free,
         under: h.under,
         upto: n,
+        wait,
     }
 }
 
 // Bits that all values left share need no pass: free stay those from the highest in which some of them differ, and none where all are equal.
+// After a look in vain the next one waits until half of the bits are settled, or a pass takes a quarter of the values left away.
 fn narrowed(xs: &[f64], m: usize, h: Held) -> Held
     requires { ⌜ T (all finite (now xs)) × (0 < m) × (m ≤ length (now xs)) × Holds m (now xs) h × (h .free < 64) ⌝ }
     ensures { λ r. ⌜ (r .free ≤ h .free) × Holds m (now (xs .entry)) r ⌝ }
@@ -93,13 +111,20 @@ fn narrowed(xs: &[f64], m: usize, h: Held) -> Held
             free,
             under: h.under,
             upto: h.upto,
+            wait: h.wait,
         };
     }
-    h
+    Held {
+        place: h.place,
+        free: h.free,
+        under: h.under,
+        upto: h.upto,
+        wait: h.free / 2,
+    }
 }
 
-// Whether to look for bits that all values left share: once the sign is settled, if one value is left, and at every fourth bit if a pass told none apart;
-// not for the last bit, which a pass settles sooner. Either answer is right.
+// Whether to look for bits that all values left share: once the sign is settled, if one value is left, and at every fourth bit if a pass told none apart,
+// but for some time after a look in vain; not for the last bit, which a pass settles sooner. Either answer is right.
 fn worth_a_look(before: Held, h: Held) -> bool {
     if h.free < 2 {
         return false;
@@ -114,7 +139,9 @@ fn worth_a_look(before: Held, h: Held) -> bool {
     }
     if h.under == before.under {
         if h.upto == before.upto {
-            return h.free % 4 == 0;
+            if h.free <= h.wait {
+                return h.free % 4 == 0;
+            }
         }
     }
     false
@@ -130,6 +157,7 @@ pub fn mth_smallest(xs: &[f64], m: usize) -> f64
         free: 64,
         under: 0,
         upto: xs.len(),
+        wait: 64,
     };
     while 0 < h.free {
         let before = h;

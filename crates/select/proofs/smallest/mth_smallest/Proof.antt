@@ -20,7 +20,7 @@ abbrev μ-loop : tie.MeasureT-loop
 μ-loop xs m h₀ h = h .free
 
 loop-holds : tie.Need-loop-holds Inv-loop μ-loop
-loop-holds c = let q = c .before .pre in (q .0, q .1, q .2, none-held _ _ (q .0) _ _)
+loop-holds c = let q = c .before .pre in (q .0, q .1, q .2, none-held _ _ (q .0) _ _ _)
 
 pass-requires : tie.Need-pass-requires Inv-loop μ-loop
 pass-requires c κs = let l = c .before .before .loop .inv in (l .0, l .1, l .2, l .3, omega (arith, c .if1 .taken))

@@ -14,15 +14,17 @@ add-place c =
 
 returns : tie.Need-returns
 returns c =
-    let b = c .before .before .before .before in
+    let n = c .before .before in
+    let b = n .before .before .before in
     let q = b .before .before .before .pre in
-    pass-set _ _ (q .0) (q .1) (q .2) _ (q .3) (q .4) _ _ refl (b .bit .ensures) _ _ refl (c .before .before .value-at .ensures) (c .before .count-below .ensures) (c .if1 .taken)
+    pass-set _ _ (q .0) (q .1) (q .2) _ (q .3) (q .4) _ _ refl (b .bit .ensures) _ _ refl (n .before .value-at .ensures) (n .count-below .ensures) (c .before .if1 .taken) _
 
 returns-2 : tie.Need-returns-2
 returns-2 c =
-    let b = c .before .before .before .before in
+    let n = c .before .before in
+    let b = n .before .before .before in
     let q = b .before .before .before .pre in
-    pass-clear _ _ (q .0) (q .1) (q .2) _ (q .3) (q .4) _ _ refl (b .bit .ensures) _ _ refl (c .before .before .value-at .ensures) (c .before .count-below .ensures) (c .if1 .left)
+    pass-clear _ _ (q .0) (q .1) (q .2) _ (q .3) (q .4) _ _ refl (b .bit .ensures) _ _ refl (n .before .value-at .ensures) (n .count-below .ensures) (c .before .if1 .left) _
 
 pub pass-spec : {M : Type 1} → statement M
-pass-spec = tie.close (tie.spec (λ c. search needs) (λ c κs. search needs) add-place (λ c κs. search needs) (λ c κs. search needs) returns returns-2)
+pass-spec = tie.close (tie.spec (λ c. search needs) (λ c κs. search needs) add-place (λ c κs. search needs) (λ c κs. search needs) (λ c κs. search needs) returns (λ c κs. search needs) returns-2)
