@@ -2,13 +2,13 @@
 -- A contract says that a public function answers what a definition gives, for every input; the theorems are about those definitions.
 -- Every call is `answer checks accepted refused`, and every lent buffer `afterwards checks new old` (refusals/specs/Answers.antt): Calls.antt
 -- beside this page lists them, with the stated orders. docs/CLAIMS.md maps every sentence of document 01, and of the requests, to what keeps it.
-use Prim.Native.Nat.{ℕ, _*_, _-_, _^_, _≤_, _<_}
+use Prim.Native.Nat.{ℕ, _+_, _*_, _-_, _^_, _≤_, _<_}
 use mathlib.Core.Path.{_≡_, refl, _∙_}
-use mathlib.Core.Bool.{Bool, true, not, _||_}
+use mathlib.Core.Bool.{Bool, true}
 use mathlib.Core.List.{List, map}
 use mathlib.Core.Logic.{_↔_, _⊎_}
 use lib.ListN.{length, getD, take}
-use lib.Dec.{T, ltb, eqb}
+use lib.Dec.{T, ltb}
 use lib.Ieee.{Float, binary64, ofInt, toSigned}
 use Rattle.limits.specs.Limits.{inputRoom, longestReport, longestSheet}
 use Rattle.order.specs.Order.{plusZero, finite, smaller, equal}
@@ -17,7 +17,7 @@ use Rattle.order.specs.Lists.{rowsOf}
 use Rattle.order.specs.Places.{place}
 use Rattle.order.proofs.Places as places
 use Rattle.select.specs.Rank.{mthSmallest}
-use Rattle.select.specs.Passes.{topBits, leftAt, held}
+use Rattle.select.specs.Passes.{topBits, Search}
 use Rattle.select.proofs.Passes as passes
 use Rattle.refusals.specs.Answers.{Checks, First, firstRefusal, afterwards}
 use Rattle.refusals.specs.Limits.{allowance}
@@ -252,14 +252,18 @@ module _ (x y : Float) (u : T (finite x)) (v : T (finite y)) where
   pub lower-exactly : (place x < 2 ^ 64) × (smaller x y ≡ ltb (place x) (place y)) × (T (equal x y) ↔ (place x ≡ place y))
   lower-exactly = (places.place-fits x u, places.place-smaller x y u v, places.place-equal x y u v)
 
--- each pass over the values makes one bit more, from the top, that of the m-th smallest's place, so that 64 settle it
+-- each pass over the values makes one bit more, from the top, that of the m-th smallest's place, or all further bits that the values left share
 module _ (m : ℕ) (xs : List Float) (fs : T (all finite xs)) (pos : 0 < m) (many : m ≤ length xs) where
-  pub one-bit-more : (p : ℕ) → p ≤ 64 → held m xs p ≡ topBits (64 - p) (place (mthSmallest m xs))
+  pub one-bit-more : {p h f : ℕ} → Search m xs p h f → topBits (64 - p) h ≡ topBits (64 - p) (place (mthSmallest m xs))
   one-bit-more = passes.after-passes m xs fs pos many
 
-  pub settled-by-64 : held m xs 64 ≡ place (mthSmallest m xs)
-  settled-by-64 = passes.settled m xs fs pos many
+  -- so that 64 at most settle it: what is not free is settled, and with each pass fewer bits are free
+  pub at-most-64 : {p h f : ℕ} → Search m xs p h f → (p + f ≤ 64) × (h ≡ topBits f (place (mthSmallest m xs)))
+  at-most-64 = passes.search-bits m xs fs pos many
 
-  -- bits that all values left share need no pass; where all values left are equal (o = 0), none is needed
-  pub shared-settled : (f h o q : ℕ) → h ≡ topBits f (place (mthSmallest m xs)) → T (all (λ x. not (leftAt h f (place x)) || eqb (topBits o (place x)) q) xs) → topBits o (place (mthSmallest m xs)) ≡ q
-  shared-settled = passes.shared-bits m xs fs pos many
+  pub settled-by-64 : {h f : ℕ} → Search m xs 64 h f → h ≡ place (mthSmallest m xs)
+  settled-by-64 = passes.settled-by-64 m xs fs pos many
+
+  -- and fewer do, where no bit is free any more
+  pub settled : {p h : ℕ} → Search m xs p h 0 → h ≡ place (mthSmallest m xs)
+  settled = passes.settled m xs fs pos many

@@ -50,6 +50,15 @@ pub or-right : (a b : Bool) → T b → T (a || b)
 or-right true b t = tt
 or-right false b t = t
 
+-- "not b, or c" is that c holds where b does
+pub if-holds : (b c : Bool) → (T b → T c) → T (not b || c)
+if-holds true c f = f tt
+if-holds false c f = tt
+
+pub then-holds : (b c : Bool) → T (not b || c) → T b → T c
+then-holds true c t u = t
+then-holds false c t u = absurd u
+
 -- from "not below" to "at most", and from "not at most" to "below"
 pub not-below : (a b : ℕ) → (a < b → ⊥) → b ≤ a
 not-below a b f = omega (arith, f)

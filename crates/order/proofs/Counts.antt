@@ -96,7 +96,7 @@ module _ {A : Type 0} where
   pub count-same-all : (p q : A → Bool) (l : List A) → ((x : A) → p x ≡ q x) → count p l ≡ count q l
   count-same-all p q l h = count-same (λ _. true) p q l (λ x _. h x) (all-true l)
 
-  -- what one test lets by, two others let by between them
+  -- what passes and what does not make the whole
   pub count-not : (p : A → Bool) (l : List A) → count p l + count (λ x. not (p x)) l ≡ length l
   unfolding count
   count-not p [] = refl

@@ -15,7 +15,7 @@ use lib.Ieee.{Float, nan, inf, fin, binary64, hid, top, ones, toBits, ofBits, fi
 use lib.Ieee.Bits.{ofBits-toBits, toBits-ofBits, toBits-lt, ofBits-fits, nanBits-is, nanBits-above}
 use borrow.Author.Tests.{lt-ltb, le-ltb, le-leb, lt-leb}
 use Rattle.order.specs.Order.{smaller, finite, withPlusZero}
-use Rattle.order.specs.Places.{bitsPlace, place, placeBits, valueAt}
+use Rattle.order.specs.Places.{bitsPlace, place, bitsAt, valueAt}
 use Rattle.order.proofs.Booleans.{iff-ltb, never, true-T, not-within}
 use Rattle.order.proofs.Infinities.{all-below, finite-fits}
 use Rattle.order.proofs.Keys.{withPlusZero-finite, zero-mag}
@@ -53,25 +53,25 @@ stands-at b (fin false zero e) t q l n = (t, inl (ap bitsPlace (pattern binary64
 stands-at b (fin true zero e) t q l n = (t, inr (ap bitsPlace (sym q ∙ pattern binary64 true 0 e ∙ ap (λ (z : ℕ). top binary64 + packed binary64 z) (zero-mag binary64 e)), refl))
 
 module _ (p : ℕ) (l : place (inf true) < p) (g : p < place (inf false)) where
-  facts : (placeBits p < 2 * top binary64) × (placeBits p % top binary64 < ones binary64 * hid binary64) × (bitsPlace (placeBits p) ≡ p)
-  unfolding place bitsPlace placeBits toBits withPlusZero
-  facts = pattern-back (2 ^ 63) (ones binary64 * hid binary64) p (omega arith) l g (omega arith) (placeBits p) refl
+  facts : (bitsAt p < 2 * top binary64) × (bitsAt p % top binary64 < ones binary64 * hid binary64) × (bitsPlace (bitsAt p) ≡ p)
+  unfolding place bitsPlace bitsAt toBits withPlusZero
+  facts = pattern-back (2 ^ 63) (ones binary64 * hid binary64) p (omega arith) l g (omega arith) (bitsAt p) refl
 
-  a-number : isNan (ofBits binary64 (placeBits p)) ≡ false
-  a-number = sym (nanBits-is binary64 (placeBits p)) ∙ nanBits-above binary64 (placeBits p) ∙ le-ltb (ones binary64 * hid binary64) (placeBits p % top binary64) (omega (arith, facts .1))
+  a-number : isNan (ofBits binary64 (bitsAt p)) ≡ false
+  a-number = sym (nanBits-is binary64 (bitsAt p)) ∙ nanBits-above binary64 (bitsAt p) ∙ le-ltb (ones binary64 * hid binary64) (bitsAt p % top binary64) (omega (arith, facts .1))
 
-  within : Stands (placeBits p) (ofBits binary64 (placeBits p))
-  within = stands-at (placeBits p) (ofBits binary64 (placeBits p)) (ofBits-fits binary64 (placeBits p))
-      (toBits-ofBits binary64 (placeBits p) (facts .0) (true-T (not (isNan (ofBits binary64 (placeBits p)))) (ap not a-number))) (facts .1) a-number
+  within : Stands (bitsAt p) (ofBits binary64 (bitsAt p))
+  within = stands-at (bitsAt p) (ofBits binary64 (bitsAt p)) (ofBits-fits binary64 (bitsAt p))
+      (toBits-ofBits binary64 (bitsAt p) (facts .0) (true-T (not (isNan (ofBits binary64 (bitsAt p)))) (ap not a-number))) (facts .1) a-number
 
-  below-within : (x : Float) → T (finite x) → smaller x (ofBits binary64 (placeBits p)) ≡ ltb (place x) p
+  below-within : (x : Float) → T (finite x) → smaller x (ofBits binary64 (bitsAt p)) ≡ ltb (place x) p
   unfolding Stands
   below-within x u = go (within .1)
     where
       v : Float
-      v = ofBits binary64 (placeBits p)
+      v = ofBits binary64 (bitsAt p)
 
-      go : (place v ≡ bitsPlace (placeBits p)) ⊎ ((bitsPlace (placeBits p) ≡ 2 ^ 63 - 1) × (place v ≡ 2 ^ 63)) → smaller x v ≡ ltb (place x) p
+      go : (place v ≡ bitsPlace (bitsAt p)) ⊎ ((bitsPlace (bitsAt p) ≡ 2 ^ 63 - 1) × (place v ≡ 2 ^ 63)) → smaller x v ≡ ltb (place x) p
       go (inl q) = place-smaller x v u (within .0) ∙ ap (ltb (place x)) (q ∙ facts .2)
       go (inr q) =
           place-smaller x v u (within .0)
@@ -100,7 +100,7 @@ round-trip H b l p q = go (decLt b H)
     go (no h) = let e : p ≡ 2 * H - 1 - b = rw (le-ltb b H (omega (arith, h))) at q in rw (lt-ltb p H (omega (arith, h))) (omega (arith, h))
 
 pub valueAt-place : (x : Float) → T (finite x) → valueAt (place x) ≡ withPlusZero x
-unfolding valueAt place bitsPlace placeBits
+unfolding valueAt place bitsPlace bitsAt
 valueAt-place x u =
     rw (lt-leb (place (inf false)) (place x) (place-bounds x u .1), lt-leb (place x) (place (inf true)) (place-bounds x u .0))
     (ap (ofBits binary64) (round-trip (2 ^ 63) (toBits binary64 (withPlusZero x)) (toBits-lt binary64 (withPlusZero x) f) (place x) refl) ∙ ofBits-toBits binary64 (withPlusZero x) f)
@@ -118,9 +118,9 @@ pub valueAt-low : (p : ℕ) → p < place (inf false) → p ≤ place (inf true)
 unfolding valueAt
 valueAt-low p g h = rw (lt-leb (place (inf false)) p g, le-leb p (place (inf true)) h)
 
-module _ (p : ℕ) (g : p < place (inf false)) (h : place (inf true) < p) (b : ℕ) (e : b ≡ placeBits p) where
+module _ (p : ℕ) (g : p < place (inf false)) (h : place (inf true) < p) (b : ℕ) (e : b ≡ bitsAt p) where
   pub valueAt-number : T (not (nanBits binary64 b))
-  valueAt-number = true-T (not (nanBits binary64 b)) (ap (λ (z : ℕ). not (nanBits binary64 z)) e ∙ ap not (nanBits-is binary64 (placeBits p) ∙ a-number p h g))
+  valueAt-number = true-T (not (nanBits binary64 b)) (ap (λ (z : ℕ). not (nanBits binary64 z)) e ∙ ap not (nanBits-is binary64 (bitsAt p) ∙ a-number p h g))
 
   pub valueAt-within : ofBits binary64 b ≡ valueAt p
   unfolding valueAt

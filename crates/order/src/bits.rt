@@ -1,6 +1,6 @@
 // The 64-bit order: the place of a bit pattern, and the value at a place.
 ghost use mathlib.Core.Path.{_≡_};
-ghost use Rattle.order.specs.Places.{bitsPlace, placeBits, valueAt};
+ghost use Rattle.order.specs.Places.{bitsPlace, bitsAt, valueAt};
 
 // The place of a bit pattern: the sign's bit set where it is clear, and all bits turned where it is set.
 pub fn bits_place(bits: u64) -> u64
@@ -13,8 +13,8 @@ pub fn bits_place(bits: u64) -> u64
 }
 
 // The bit pattern at a place.
-fn place_bits(p: u64) -> u64
-    ensures { λ r. ⌜ r ≡ placeBits p ⌝ }
+fn bits_at(p: u64) -> u64
+    ensures { λ r. ⌜ r ≡ bitsAt p ⌝ }
 {
     if p < 0x8000_0000_0000_0000 {
         return 0xFFFF_FFFF_FFFF_FFFF - p;
@@ -22,7 +22,7 @@ fn place_bits(p: u64) -> u64
     p - 0x8000_0000_0000_0000
 }
 
-// The value at a place; an infinity where no finite value stands so low, or so high.
+// The value at a place; minus infinity below the finite values' places, and infinity above them.
 pub fn value_at(p: u64) -> f64
     ensures { λ r. ⌜ r ≡ valueAt p ⌝ }
 {
@@ -32,5 +32,5 @@ pub fn value_at(p: u64) -> f64
     if p <= 0x000F_FFFF_FFFF_FFFF {
         return f64::from_bits(0xFFF0_0000_0000_0000);
     }
-    f64::from_bits(place_bits(p))
+    f64::from_bits(bits_at(p))
 }

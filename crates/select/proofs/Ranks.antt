@@ -28,7 +28,7 @@ from v xs = count (λ x. leb v (key x)) xs
 
 -- ---- counts by keys
 
-pub above-is : (xs : List Float) (v : Float) → Finite xs → T (finite v) → count (λ x. smaller v x) xs ≡ above (key v) xs
+above-is : (xs : List Float) (v : Float) → Finite xs → T (finite v) → count (λ x. smaller v x) xs ≡ above (key v) xs
 above-is xs v fs f = count-same finite (λ x. smaller v x) (λ x. ltb (key v) (key x)) xs (λ x g. smaller-key v x f g) fs
 
 pub from-is : (xs : List Float) (v : Float) → Finite xs → T (finite v) → count (λ x. atMost v x) xs ≡ from (key v) xs
@@ -43,7 +43,7 @@ under-is xs v fs f =
       count-not (λ x. ltb (key x) (key v)) xs,
     )
 
-pub keys-upTo : (xs : List Float) (v : ℕ) → count (λ x. leb (key x) v) xs + above v xs ≡ length xs
+keys-upTo : (xs : List Float) (v : ℕ) → count (λ x. leb (key x) v) xs + above v xs ≡ length xs
 keys-upTo xs v = omega (arith, count-same-all (λ x. leb (key x) v) (λ x. not (ltb v (key x))) xs (λ x. leb-not (key x) v), count-not (λ x. ltb v (key x)) xs)
 
 upTo-is : (xs : List Float) (v : Float) → Finite xs → T (finite v) → count (λ x. atMost x v) xs + above (key v) xs ≡ length xs
@@ -51,10 +51,10 @@ upTo-is xs v fs f =
     omega (arith, count-same finite (λ x. atMost x v) (λ x. leb (key x) (key v)) xs (λ x g. atMost-key x v g f) fs, keys-upTo xs (key v))
 
 -- larger bounds leave fewer members
-pub above-falls : (xs : List Float) (v w : ℕ) → v ≤ w → above w xs ≤ above v xs
+above-falls : (xs : List Float) (v w : ℕ) → v ≤ w → above w xs ≤ above v xs
 above-falls xs v w h = count-le-all (λ x. ltb w (key x)) (λ x. ltb v (key x)) xs (λ x t. lt→ltb v (key x) (omega (arith, ltb→lt w (key x) t)))
 
-pub from-above : (xs : List Float) (v w : ℕ) → v < w → from w xs ≤ above v xs
+from-above : (xs : List Float) (v w : ℕ) → v < w → from w xs ≤ above v xs
 from-above xs v w h = count-le-all (λ x. leb w (key x)) (λ x. ltb v (key x)) xs (λ x t. lt→ltb v (key x) (omega (arith, leb→le w (key x) t)))
 
 -- ---- some member has each rank
@@ -108,7 +108,7 @@ rank-enough a b k t = leb→le k b (and-right (ltb a k) (leb k b) t)
 
 module _ (k : ℕ) (xs : List Float) (fs : Finite xs) where
   -- the test of a rank, by keys
-  pub fromTop-is : (v : Float) → T (finite v) → fromTop k xs v ≡ (ltb (above (key v) xs) k && leb k (from (key v) xs))
+  fromTop-is : (v : Float) → T (finite v) → fromTop k xs v ≡ (ltb (above (key v) xs) k && leb k (from (key v) xs))
   unfolding fromTop
   fromTop-is v f = ap₂ (λ (m n : ℕ). ltb m k && leb k n) (above-is xs v fs f) (from-is xs v fs f)
 
@@ -131,7 +131,7 @@ module _ (k : ℕ) (xs : List Float) (fs : Finite xs) where
           )
 
 -- what holds of each member that passes, with plus zero for either zero, holds of the first
-pub first-holds : (P : Float → Type 0) (r p : Float → Bool) (xs : List Float) → T (all r xs) → 0 < count p xs → ((x : Float) → T (r x) → T (p x) → P (withPlusZero x)) → P (withPlusZero (first p xs))
+first-holds : (P : Float → Type 0) (r p : Float → Bool) (xs : List Float) → T (all r xs) → 0 < count p xs → ((x : Float) → T (r x) → T (p x) → P (withPlusZero x)) → P (withPlusZero (first p xs))
 unfolding count first all
 first-holds P r p [] rs h f = absurd (omega arith)
 first-holds P r p (x ∷ xs) rs h f = go (p x) (λ g. first-holds P r p xs (and-right (r x) (all r xs) rs) g f) (f x (and-left (r x) (all r xs) rs)) h
@@ -140,7 +140,7 @@ first-holds P r p (x ∷ xs) rs h f = go (p x) (λ g. first-holds P r p xs (and-
     go true ih g h = g tt
     go false ih g h = ih (omega arith)
 
-pub first-same : (r p q : Float → Bool) (xs : List Float) → T (all r xs) → ((x : Float) → T (r x) → p x ≡ q x) → first p xs ≡ first q xs
+first-same : (r p q : Float → Bool) (xs : List Float) → T (all r xs) → ((x : Float) → T (r x) → p x ≡ q x) → first p xs ≡ first q xs
 unfolding first all
 first-same r p q [] rs h = refl
 first-same r p q (x ∷ xs) rs h =
@@ -194,7 +194,7 @@ module _ (k : ℕ) (xs : List Float) (fs : Finite xs) (pos : 0 < k) (held : k �
 -- ---- the m-th smallest of n is the (n + 1 - m)-th largest
 
 module _ (m : ℕ) (xs : List Float) (fs : Finite xs) (pos : 0 < m) (held : m ≤ length xs) where
-  pub mthSmallest-top : mthSmallest m xs ≡ kthLargest (suc (length xs) - m) xs
+  mthSmallest-top : mthSmallest m xs ≡ kthLargest (suc (length xs) - m) xs
   unfolding mthSmallest kthLargest fromBottom fromTop
   mthSmallest-top = ap withPlusZero (first-same finite (fromBottom m xs) (fromTop (suc (length xs) - m) xs) xs fs tests)
     where

@@ -1,18 +1,17 @@
 -- What the steps of the selection give.
 --   bits-reach, rest-fits, cleared-is          how many bits a number has, and a number with its lowest bits zero
---   past-end, past-next                        the value at the first place after those that are left
+--   past-end, past-next                        the value at the first place after some
 --   smaller-number                             what is smaller than anything is a number
 --   gathered-..                                the bits that some patterns have set, and those that all have
---   none-held                                  before any pass
---   room, pass-room, pass-set, pass-clear      one pass
---   narrow, waits                              bits that all values left share, or none
---   none-free                                  after the last pass
+--   none-held, free-most, none-free            before any pass; at most 64 bits are free; after the last pass
+--   pass-room, pass-fits, passed-on            one pass, one bit more
+--   shared-on                                  one pass, and all bits that the values left share
 use Prim.Native.Nat.{ℕ, zero, suc, _+_, _-_, _*_, _/_, _%_, _^_, _≤_, _<_}
 use native.Mathlib.Omega.{arith}
 use native.Mathlib.Nat.{div-eq-of-lt, pow-suc}
 use native.Mathlib.Numerals.{add-one}
 use mathlib.Core.Path.{_≡_, refl, sym, ap, subst, _∙_}
-use mathlib.Core.Bool.{Bool, true, false, not, _&&_, _||_}
+use mathlib.Core.Bool.{Bool, true, false, not, cond, _&&_}
 use mathlib.Core.List.{List, [], _∷_}
 use lib.ListN.{length, getD, drop, drop-of-length-le}
 use lib.Seq.{drop-cons}
@@ -25,7 +24,7 @@ use borrow.Author.Tests.{lt-ltb, le-ltb, eq-eqb}
 use Rattle.order.specs.Order.{finite, smaller, withPlusZero}
 use Rattle.order.specs.Counting.{count, all}
 use Rattle.order.specs.Places.{place, bitsPlace, valueAt}
-use Rattle.order.proofs.Booleans.{never, true-T, and-left, and-right, and-both}
+use Rattle.order.proofs.Booleans.{never, true-T, and-left, and-right, and-both, if-holds}
 use Rattle.order.proofs.Counts.{all-le, all-both, count-same}
 use Rattle.order.proofs.Places.{place-fits}
 use Rattle.order.proofs.ValueAt.{below-valueAt, valueAt-high}
@@ -33,10 +32,10 @@ use Rattle.order.proofs.SharedBits.{place-shares}
 use Rattle.order.proofs.Powers.{top-room}
 use Rattle.order.proofs.Rows.{Finite}
 use Rattle.select.specs.Rank.{mthSmallest}
-use Rattle.select.specs.Passes.{lower, topBits, leftAt, passed}
+use Rattle.select.specs.Passes.{lower, topBits, leftAt, sharesTop, passed, Search, begun, one-bit, all-shared}
 use Rattle.select.specs.Internal.{chosen, gathered, anyBits, everyBits, Holds}
 use Rattle.select.specs.declared.smallest.Held.{Held}
-use Rattle.select.proofs.Passes.{answer-finite, one-pass, shared-bits}
+use Rattle.select.proofs.Passes.{answer-finite, search-bits, settled}
 
 -- ---- bits of a number
 
@@ -73,11 +72,11 @@ smaller-number (inf s) t l e = rw e tt
 smaller-number (fin s zero k) t l e = rw e tt
 smaller-number (fin s (suc m) k) t l e = rw e tt
 
-or-left : (a b : ℕ) → a ≤ bitOr a b
-or-left a b = omega (arith, or-add-and a b, and-le-r a b)
+joined-left : (a b : ℕ) → a ≤ bitOr a b
+joined-left a b = omega (arith, or-add-and a b, and-le-r a b)
 
-or-right : (a b : ℕ) → b ≤ bitOr a b
-or-right a b = omega (arith, or-add-and a b, and-le-l a b)
+joined-right : (a b : ℕ) → b ≤ bitOr a b
+joined-right a b = omega (arith, or-add-and a b, and-le-l a b)
 
 xor-none : (a b : ℕ) → bitXor a b ≡ 0 → a ≡ b
 xor-none a b e = omega (arith, xor-add-and a b, and-le-l a b, and-le-r a b)
@@ -118,21 +117,17 @@ module _ (f : ℕ → ℕ → ℕ) (lo hi : Float) (none : ℕ) where
 any-all : (lo hi : Float) (xs : List Float) (n : ℕ) → n ≡ anyBits lo hi xs → T (all (λ x. leb (chosen lo hi x 0) n) xs)
 any-all lo hi xs n e =
     gathered-all bitOr lo hi 0 leb (λ a. le→leb a a (omega arith)) (λ a b c s t. le→leb a c (omega (arith, leb→le a b s, leb→le b c t)))
-    (λ a b. le→leb a (bitOr a b) (or-left a b)) (λ a b. le→leb b (bitOr a b) (or-right a b)) 0 xs n (sym e)
+    (λ a b. le→leb a (bitOr a b) (joined-left a b)) (λ a b. le→leb b (bitOr a b) (joined-right a b)) 0 xs n (sym e)
 
 every-all : (lo hi : Float) (xs : List Float) (n : ℕ) → n ≡ everyBits lo hi xs → T (all (λ x. leb n (chosen lo hi x (2 ^ 64 - 1))) xs)
 every-all lo hi xs n e =
     gathered-all bitAnd lo hi (2 ^ 64 - 1) (λ a b. leb b a) (λ a. le→leb a a (omega arith)) (λ a b c s t. le→leb c a (omega (arith, leb→le b a s, leb→le c b t)))
     (λ a b. le→leb (bitAnd a b) a (and-le-l a b)) (λ a b. le→leb (bitAnd a b) b (and-le-r a b)) (2 ^ 64 - 1) xs n (sym e)
 
-or-if : (b c : Bool) → (T b → T c) → T (not b || c)
-or-if true c f = f tt
-or-if false c f = tt
-
 -- ---- before any pass
 
-pub none-held : (m : ℕ) (xs : List Float) → Finite xs → (u v w : ℕ) → Holds m xs (record { place = 0; free = 64; under = u; upto = v; wait = w })
-none-held m xs fs u v w = record { bits = omega arith; top = sym (ap (λ (q : ℕ). q * 2 ^ 64) (div-eq-of-lt (place-fits (mthSmallest m xs) (answer-finite m xs fs)))) }
+pub none-held : (m : ℕ) (xs : List Float) (u v : ℕ) (b : Bool) → Holds m xs (record { place = 0; free = 64; under = u; upto = v; unsplit = b })
+none-held m xs u v b = record { passes = 0; search = begun }
 
 -- ---- one pass
 
@@ -140,84 +135,86 @@ lower-is : (xs : List Float) → Finite xs → (p : ℕ) → count (λ x. smalle
 lower-is xs fs p = count-same finite (λ x. smaller x (valueAt p)) (λ x. ltb (place x) p) xs (λ x f. below-valueAt p x f) fs
 
 module _ (m : ℕ) (xs : List Float) (fs : Finite xs) (pos : 0 < m) (many : m ≤ length xs) (h : Held) (s : Holds m xs h) where
-  pub room : h .place + 2 ^ h .free ≤ 2 ^ 64
-  room = rw (s .top) (top-room 64 (h .free) (place (mthSmallest m xs)) (s .bits) (place-fits (mthSmallest m xs) (answer-finite m xs fs)))
+  bits : (s .passes + h .free ≤ 64) × (h .place ≡ topBits (h .free) (place (mthSmallest m xs)))
+  bits = search-bits m xs fs pos many (s .search)
 
-  module _ (g : 0 < h .free) (o w : ℕ) (eo : o ≡ h .free - 1) (ew : w ≡ 2 ^ o) where
+  pub free-most : h .free ≤ 64
+  free-most = omega (arith, bits .0)
+
+  -- with no bit free
+  pub none-free : h .free ≤ 0 → h .place ≡ place (mthSmallest m xs)
+  none-free z =
+      let none : h .free ≡ 0 = omega arith in
+      settled m xs fs pos many (subst (λ (f : ℕ). Search m xs (s .passes) (h .place) f) none (s .search))
+
+  -- o is the next bit, of weight w, and p the place with it set
+  module _ (g : 0 < h .free) (o w p : ℕ) (eo : o ≡ h .free - 1) (ew : w ≡ 2 ^ o) (ep : p ≡ h .place + w) where
+    free-is : h .free ≡ suc o
+    free-is = omega arith
+
     twice : 2 ^ h .free ≡ w + w
-    twice =
-        let e : h .free ≡ suc o = omega arith in
-        omega (arith, ap (λ (z : ℕ). 2 ^ z) e, pow-suc 2 o)
+    twice = omega (arith, ap (λ (z : ℕ). 2 ^ z) free-is, pow-suc 2 o)
 
-    pub pass-room : h .place + w < 2 ^ 64
-    pass-room = omega (arith, room, twice, pow-pos o)
+    room : h .place + 2 ^ h .free ≤ 2 ^ 64
+    room = rw (bits .1) (top-room 64 (h .free) (place (mthSmallest m xs)) free-most (place-fits (mthSmallest m xs) (answer-finite m xs fs)))
 
-    module _ (p n : ℕ) {v : Float} (ep : p ≡ h .place + w) (ev : v ≡ valueAt p) (en : n ≡ count (λ x. smaller x v) xs) where
-      counted : n ≡ lower p xs
-      counted = en ∙ ap (λ (z : Float). count (λ x. smaller x z) xs) ev ∙ lower-is xs fs p
+    pub pass-room : p + 2 ^ o ≤ 2 ^ 64
+    pass-room = omega (arith, room, twice)
 
-      there : h .place + 2 ^ o ≡ p
-      there = omega arith
+    pub pass-fits : h .place + w < 2 ^ 64
+    pass-fits = omega (arith, pass-room, pow-pos o)
 
-      next : passed m xs o (h .place) ≡ topBits o (place (mthSmallest m xs))
-      next = one-pass m xs fs pos many o (h .place) (s .top ∙ ap (λ (z : ℕ). topBits z (place (mthSmallest m xs))) (omega arith))
-
-      pub pass-set : n < m → (t : ℕ) → (p ≡ passed m xs (h .free - 1) (h .place)) × (o ≡ h .free - 1) × Holds m xs (record { place = p; free = o; under = n; upto = h .upto; wait = t })
+    module _ (n : ℕ) {v : Float} (ev : v ≡ valueAt p) (en : n ≡ count (λ x. smaller x v) xs) (r : Held) (er : (r .place ≡ cond (ltb n m) p (h .place)) × (r .free ≡ h .free - 1)) where
+      pass-is : r .place ≡ passed m xs (h .free - 1) (h .place)
       unfolding passed
-      pass-set l t =
-          let e : p ≡ passed m xs o (h .place) = rw (there, lt-ltb (lower p xs) m (omega (arith, counted))) in
-          (e ∙ ap (λ (z : ℕ). passed m xs z (h .place)) eo, eo, record { bits = omega (arith, s .bits); top = e ∙ next })
+      pass-is =
+          let there : h .place + 2 ^ o ≡ p = omega arith in
+          let counted : n ≡ lower p xs = en ∙ ap (λ (z : Float). count (λ x. smaller x z) xs) ev ∙ lower-is xs fs p in
+          er .0 ∙ rw (← eo, there, counted)
 
-      pub pass-clear : m ≤ n → (t : ℕ) → (h .place ≡ passed m xs (h .free - 1) (h .place)) × (o ≡ h .free - 1) × Holds m xs (record { place = h .place; free = o; under = h .under; upto = n; wait = t })
-      unfolding passed
-      pass-clear l t =
-          let e : h .place ≡ passed m xs o (h .place) = rw (there, le-ltb (lower p xs) m (omega (arith, counted))) in
-          (e ∙ ap (λ (z : ℕ). passed m xs z (h .place)) eo, eo, record { bits = omega (arith, s .bits); top = e ∙ next })
+      pub passed-on : (r .place ≡ passed m xs (h .free - 1) (h .place)) × (r .free ≡ h .free - 1) × Holds m xs r
+      passed-on =
+          let next : Search m xs (suc (s .passes)) (passed m xs o (h .place)) o = one-bit (subst (λ (f : ℕ). Search m xs (s .passes) (h .place) f) free-is (s .search)) in
+          let here : passed m xs o (h .place) ≡ r .place = ap (λ (z : ℕ). passed m xs z (h .place)) eo ∙ sym pass-is in
+          let free : o ≡ r .free = omega (arith, er .1) in
+          (pass-is, er .1, record { passes = suc (s .passes); search = subst (λ (f : ℕ). Search m xs (suc (s .passes)) (r .place) f) free (subst (λ (q : ℕ). Search m xs (suc (s .passes)) q o) here next) })
 
-  -- ---- bits that all values left share
+    -- ---- bits that all values left share
 
-  module _ {lo hi : Float} (el : lo ≡ valueAt (h .place)) (eh : hi ≡ valueAt (h .place + 2 ^ h .free)) (any every : ℕ) (ea : any ≡ anyBits lo hi xs) (ee : every ≡ everyBits lo hi xs)
-      (fit : any < 2 ^ 64) (o : ℕ) (few : o ≤ 64) (reach : bitXor any every < 2 ^ o) where
-    -- a value left is not below lo, and below hi
-    chosen-is : (x : Float) → T (finite x) → T (leftAt (h .place) (h .free) (place x)) → (d : ℕ) → chosen lo hi x d ≡ toBits binary64 (withPlusZero x)
-    unfolding chosen
-    chosen-is x f t d =
-        let p = place x in
-        let l = leb→le (h .place) p (and-left (leb (h .place) p) (ltb p (h .place + 2 ^ h .free)) t) in
-        let g = ltb→lt p (h .place + 2 ^ h .free) (and-right (leb (h .place) p) (ltb p (h .place + 2 ^ h .free)) t) in
-        rw (ap (smaller x) el ∙ below-valueAt (h .place) x f ∙ le-ltb p (h .place) l, ap (smaller x) eh ∙ below-valueAt (h .place + 2 ^ h .free) x f ∙ lt-ltb p (h .place + 2 ^ h .free) g)
+    module _ {lo hi : Float} (el : lo ≡ valueAt (h .place)) (eh : hi ≡ valueAt (p + 2 ^ o)) (any every : ℕ) (ea : any ≡ anyBits lo hi xs) (ee : every ≡ everyBits lo hi xs)
+        (fit : any < 2 ^ 64) (l : ℕ) (few : l ≤ 64) (reach : bitXor any every < 2 ^ l) where
+      past : hi ≡ valueAt (h .place + 2 ^ h .free)
+      past = let e : p + 2 ^ o ≡ h .place + 2 ^ h .free = omega (arith, twice) in eh ∙ ap valueAt e
 
-    shares : (x : Float) → T (finite x) → T (leb (chosen lo hi x 0) any) → T (leb every (chosen lo hi x (2 ^ 64 - 1))) → T (leftAt (h .place) (h .free) (place x)) → topBits o (place x) ≡ topBits o (bitsPlace any)
-    shares x f t u l =
-        let b = toBits binary64 (withPlusZero x) in
-        ap (λ (q : ℕ). q * 2 ^ o)
-        (place-shares o few x f any fit
-        (xor-top o any every b reach (omega (arith, leb→le every (chosen lo hi x (2 ^ 64 - 1)) u, chosen-is x f l (2 ^ 64 - 1))) (omega (arith, leb→le (chosen lo hi x 0) any t, chosen-is x f l 0))))
+      -- a value left is not below lo, and below hi
+      chosen-is : (x : Float) → T (finite x) → T (leftAt (h .place) (h .free) (place x)) → (d : ℕ) → chosen lo hi x d ≡ toBits binary64 (withPlusZero x)
+      unfolding chosen
+      chosen-is x f t d =
+          let p = place x in
+          let a = leb→le (h .place) p (and-left (leb (h .place) p) (ltb p (h .place + 2 ^ h .free)) t) in
+          let b = ltb→lt p (h .place + 2 ^ h .free) (and-right (leb (h .place) p) (ltb p (h .place + 2 ^ h .free)) t) in
+          rw (ap (smaller x) el ∙ below-valueAt (h .place) x f ∙ le-ltb p (h .place) a, ap (smaller x) past ∙ below-valueAt (h .place + 2 ^ h .free) x f ∙ lt-ltb p (h .place + 2 ^ h .free) b)
 
-    shared : T (all (λ x. not (leftAt (h .place) (h .free) (place x)) || eqb (topBits o (place x)) (topBits o (bitsPlace any))) xs)
-    shared =
-        all-le (λ x. finite x && (leb (chosen lo hi x 0) any && leb every (chosen lo hi x (2 ^ 64 - 1)))) (λ x. not (leftAt (h .place) (h .free) (place x)) || eqb (topBits o (place x)) (topBits o (bitsPlace any))) xs each
-        (all-both finite (λ x. leb (chosen lo hi x 0) any && leb every (chosen lo hi x (2 ^ 64 - 1))) xs fs
-        (all-both (λ x. leb (chosen lo hi x 0) any) (λ x. leb every (chosen lo hi x (2 ^ 64 - 1))) xs (any-all lo hi xs any ea) (every-all lo hi xs every ee)))
-      where
-        each : (x : Float) → T (finite x && (leb (chosen lo hi x 0) any && leb every (chosen lo hi x (2 ^ 64 - 1)))) → T (not (leftAt (h .place) (h .free) (place x)) || eqb (topBits o (place x)) (topBits o (bitsPlace any)))
-        each x t =
-            let A = leb (chosen lo hi x 0) any in
-            let E = leb every (chosen lo hi x (2 ^ 64 - 1)) in
-            let b = and-right (finite x) (A && E) t in
-            or-if (leftAt (h .place) (h .free) (place x)) (eqb (topBits o (place x)) (topBits o (bitsPlace any))) (λ l. true-T (eqb (topBits o (place x)) (topBits o (bitsPlace any))) (eq-eqb (topBits o (place x)) (topBits o (bitsPlace any)) (shares x (and-left (finite x) (A && E) t) (and-left A E b) (and-right A E b) l)))
+      shares : (x : Float) → T (finite x) → T (leb (chosen lo hi x 0) any) → T (leb every (chosen lo hi x (2 ^ 64 - 1))) → T (leftAt (h .place) (h .free) (place x)) → topBits l (place x) ≡ topBits l (bitsPlace any)
+      shares x f t u g =
+          let b = toBits binary64 (withPlusZero x) in
+          ap (λ (q : ℕ). q * 2 ^ l)
+          (place-shares l few x f any fit
+          (xor-top l any every b reach (omega (arith, leb→le every (chosen lo hi x (2 ^ 64 - 1)) u, chosen-is x f g (2 ^ 64 - 1))) (omega (arith, leb→le (chosen lo hi x 0) any t, chosen-is x f g 0))))
 
-    pub narrow : (p u v w : ℕ) → p ≡ topBits o (bitsPlace any) → Holds m xs (record { place = p; free = o; under = u; upto = v; wait = w })
-    narrow p u v w e = record { bits = few; top = e ∙ sym (shared-bits m xs fs pos many (h .free) (h .place) o (topBits o (bitsPlace any)) (s .top) shared) }
+      all-share : T (all (sharesTop (h .place) (h .free) l (topBits l (bitsPlace any))) xs)
+      all-share =
+          all-le (λ x. finite x && (leb (chosen lo hi x 0) any && leb every (chosen lo hi x (2 ^ 64 - 1)))) (sharesTop (h .place) (h .free) l (topBits l (bitsPlace any))) xs each
+          (all-both finite (λ x. leb (chosen lo hi x 0) any && leb every (chosen lo hi x (2 ^ 64 - 1))) xs fs
+          (all-both (λ x. leb (chosen lo hi x 0) any) (λ x. leb every (chosen lo hi x (2 ^ 64 - 1))) xs (any-all lo hi xs any ea) (every-all lo hi xs every ee)))
+        where
+          each : (x : Float) → T (finite x && (leb (chosen lo hi x 0) any && leb every (chosen lo hi x (2 ^ 64 - 1)))) → T (sharesTop (h .place) (h .free) l (topBits l (bitsPlace any)) x)
+          each x t =
+              let A = leb (chosen lo hi x 0) any in
+              let E = leb every (chosen lo hi x (2 ^ 64 - 1)) in
+              let b = and-right (finite x) (A && E) t in
+              if-holds (leftAt (h .place) (h .free) (place x)) (eqb (topBits l (place x)) (topBits l (bitsPlace any)))
+              (λ g. true-T (eqb (topBits l (place x)) (topBits l (bitsPlace any))) (eq-eqb (topBits l (place x)) (topBits l (bitsPlace any)) (shares x (and-left (finite x) (A && E) t) (and-left A E b) (and-right A E b) g)))
 
--- a look in vain
-pub waits : (m : ℕ) (xs : List Float) (h : Held) → Holds m xs h → (w : ℕ) → Holds m xs (record { place = h .place; free = h .free; under = h .under; upto = h .upto; wait = w })
-waits m xs h s w = record { bits = s .bits; top = s .top }
-
--- ---- no bit is free any more
-
-pub none-free : (m : ℕ) (xs : List Float) (h : Held) → Holds m xs h → h .free ≤ 0 → h .place ≡ topBits 0 (place (mthSmallest m xs))
-none-free m xs h s z = s .top ∙ ap (λ (o : ℕ). topBits o (place (mthSmallest m xs))) none
-  where
-    none : h .free ≡ 0
-    none = omega arith
+      pub shared-on : l < h .free → (q u v : ℕ) (b : Bool) → q ≡ topBits l (bitsPlace any) → Holds m xs (record { place = q; free = l; under = u; upto = v; unsplit = b })
+      shared-on k q u v b e = record { passes = suc (s .passes); search = subst (λ (z : ℕ). Search m xs (suc (s .passes)) z l) (sym e) (all-shared (s .search) k all-share) }

@@ -3,17 +3,14 @@
 --   gathered f lo hi none d xs     d joined by f, member after member, with what is chosen of each
 --   anyBits lo hi xs      the bits that are set in the pattern of some such member
 --   everyBits lo hi xs    the bits that are set in the pattern of every such member
---   Holds m xs h          h holds the place of the m-th smallest, but for its free bits, at most 64
-use Prim.Native.Nat.{ℕ, _-_, _^_, _≤_}
-use mathlib.Core.Path.{_≡_}
+--   Holds m xs h          h is what a search holds, after some number of passes
+use Prim.Native.Nat.{ℕ, _-_, _^_}
 use mathlib.Core.Bool.{cond}
 use mathlib.Core.List.{List, [], _∷_}
 use lib.Bits.{bitAnd, bitOr}
 use lib.Ieee.{Float, binary64, toBits}
 use Rattle.order.specs.Order.{smaller, withPlusZero}
-use Rattle.order.specs.Places.{place}
-use Rattle.select.specs.Rank.{mthSmallest}
-use Rattle.select.specs.Passes.{topBits}
+use Rattle.select.specs.Passes.{Search}
 use Rattle.select.specs.declared.smallest.Held.{Held}
 
 unfoldable pub chosen : Float → Float → Float → ℕ → ℕ
@@ -32,5 +29,5 @@ abbrev pub everyBits : Float → Float → List Float → ℕ
 everyBits lo hi xs = gathered bitAnd lo hi (2 ^ 64 - 1) (2 ^ 64 - 1) xs
 
 pub record Holds (m : ℕ) (xs : List Float) (h : Held) : Type 0 where
-  pub bits : h .free ≤ 64
-  pub top : h .place ≡ topBits (h .free) (place (mthSmallest m xs))
+  pub passes : ℕ
+  pub search : Search m xs passes (h .place) (h .free)

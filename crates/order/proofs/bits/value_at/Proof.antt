@@ -25,11 +25,11 @@ returns-2 c = valueAt-low _ (c .before .if1 .left) (c .if2 .taken)
 
 float-from-bits-result-3 : tie.Need-float-from-bits-result-3
 unfolding place bitsPlace toBits withPlusZero
-float-from-bits-result-3 c = valueAt-number _ (c .before .before .if1 .left) (c .before .if2 .left) _ (c .place-bits .ensures)
+float-from-bits-result-3 c = valueAt-number _ (c .before .before .if1 .left) (c .before .if2 .left) _ (c .bits-at .ensures)
 
 returns-3 : tie.Need-returns-3
 unfolding place bitsPlace toBits withPlusZero
-returns-3 c = valueAt-within _ (c .before .before .if1 .left) (c .before .if2 .left) _ (c .place-bits .ensures)
+returns-3 c = valueAt-within _ (c .before .before .if1 .left) (c .before .if2 .left) _ (c .bits-at .ensures)
 
 pub value-at-spec : {M : Type 1} → statement M
 value-at-spec = tie.close (tie.spec float-from-bits-result returns float-from-bits-result-2 returns-2 (λ c κs. search needs) float-from-bits-result-3 returns-3)

@@ -1,30 +1,27 @@
--- `pass` meets its contract: what the pass counted, and either bit, by the law of one pass.
+-- `pass` meets its contract: what the pass counted, by the law of one bit more.
 use native.Mathlib.Omega.{arith}
 use mathlib.Core.Path.{refl}
 use borrow.Author.Needs.{needs}
-use Rattle.select.proofs.Steps.{pass-room, pass-set, pass-clear}
+use Rattle.select.proofs.Steps.{free-most, pass-fits, passed-on}
 use Rattle.select.proofs.smallest.pass.Statement.{statement}
 use Rattle.select.proofs.smallest.pass.Tie as tie
 
-add-place : tie.Need-add-place
-add-place c =
+bit-requires : tie.Need-bit-requires
+bit-requires c κs = let q = c .before .before .pre in omega (arith, free-most _ _ (q .0) (q .1) (q .2) _ (q .3))
+
+add-middle : tie.Need-add-middle
+add-middle c =
     let b = c .before in
     let q = b .before .before .before .pre in
-    omega (arith, pass-room _ _ (q .0) (q .1) (q .2) _ (q .3) (q .4) _ _ refl (b .bit .ensures))
+    omega (arith, pass-fits _ _ (q .0) (q .1) (q .2) _ (q .3) (q .4) _ _ _ refl (b .bit .ensures) refl)
 
 returns : tie.Need-returns
 returns c =
-    let n = c .before .before in
-    let b = n .before .before .before in
+    let n = c .before in
+    let v = n .before in
+    let b = v .before .before in
     let q = b .before .before .before .pre in
-    pass-set _ _ (q .0) (q .1) (q .2) _ (q .3) (q .4) _ _ refl (b .bit .ensures) _ _ refl (n .before .value-at .ensures) (n .count-below .ensures) (c .before .if1 .taken) _
-
-returns-2 : tie.Need-returns-2
-returns-2 c =
-    let n = c .before .before in
-    let b = n .before .before .before in
-    let q = b .before .before .before .pre in
-    pass-clear _ _ (q .0) (q .1) (q .2) _ (q .3) (q .4) _ _ refl (b .bit .ensures) _ _ refl (n .before .value-at .ensures) (n .count-below .ensures) (c .before .if1 .left) _
+    passed-on _ _ (q .0) (q .1) (q .2) _ (q .3) (q .4) _ _ _ refl (b .bit .ensures) refl _ (v .value-at .ensures) (n .count-below .ensures) _ (c .one-bit .ensures)
 
 pub pass-spec : {M : Type 1} → statement M
-pass-spec = tie.close (tie.spec (λ c. search needs) (λ c κs. search needs) add-place (λ c κs. search needs) (λ c κs. search needs) (λ c κs. search needs) returns (λ c κs. search needs) returns-2)
+pass-spec = tie.close (tie.spec (λ c. search needs) bit-requires add-middle (λ c κs. search needs) (λ c κs. search needs) (λ c κs. search needs) returns)

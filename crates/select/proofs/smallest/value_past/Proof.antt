@@ -9,7 +9,7 @@ use Rattle.select.proofs.smallest.value_past.Statement.{statement}
 use Rattle.select.proofs.smallest.value_past.Tie as tie
 
 sub-last : tie.Need-sub-last
-sub-last c = omega (arith, c .bit .ensures, pow-pos (c .before .args .free))
+sub-last c = omega (arith, c .bit .ensures, pow-pos (c .before .args .o))
 
 float-from-bits-result : tie.Need-float-from-bits-result
 unfolding nanBits
