@@ -62,6 +62,7 @@ static const struct task tasks[] = {
     {NULL, 0, "4096 x 32, ladder built so", RUN, {AGAINST, 4096, 32, 1, 0}},
     {NULL, 0, "4096 x 1, few different values", RUN, {FEW, 4096, 1, 1, 0}},
     {NULL, 0, "4096 x 1, apart in the last bits", RUN, {CLOSE, 4096, 1, 1, 0}},
+    {NULL, 0, "4096 x 1, nearly all equal", RUN, {NEARLY, 4096, 1, 1, 0}},
     {NULL, 0, "4096 x 1, built against the bits", RUN, {BITS, 4096, 1, 1, 0}},
 };
 

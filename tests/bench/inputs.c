@@ -113,14 +113,25 @@ static void make_close(const struct recipe *r, double *values)
     }
 }
 
-/* One value, but for 13 that differ from it in one bit each, every fourth one down. */
+/* One value, but for eight that differ from it in one bit each, every sixth one down. */
+static void make_nearly(const struct recipe *r, double *values)
+{
+    for (size_t i = 0; i < r->rows * r->columns; i++) {
+        size_t row = i / r->columns, bit = row / 400;
+        double centre = rung(r, i % r->columns) + 25;
+        uint64_t turned = row % 400 == 3 && bit < 8 ? UINT64_C(1) << (47 - 6 * bit) : 0;
+        values[i] = of_bits(bits_of(centre) ^ turned);
+    }
+}
+
+/* Values below zero, with each of the bits 62, 59, 53 and so on, every sixth one down, set in three of ten. */
 static void make_bits(const struct recipe *r, double *values)
 {
     for (size_t i = 0; i < r->rows * r->columns; i++) {
-        size_t row = i / r->columns, bit = row / 200;
-        double centre = rung(r, i % r->columns) + 25;
-        uint64_t turned = row % 200 == 3 && bit < 13 ? UINT64_C(1) << (51 - 4 * bit) : 0;
-        values[i] = of_bits(bits_of(centre) ^ turned);
+        uint64_t bits = UINT64_C(1) << 63 | (uint64_t)(uniform() < 0.3) << 62;
+        for (int bit = 59; bit > 0; bit -= 6)
+            bits |= (uint64_t)(uniform() < 0.3) << bit;
+        values[i] = of_bits(bits);
     }
 }
 
@@ -190,6 +201,8 @@ void make_table(const struct recipe *r, size_t number, struct table *t)
         make_few(r, values);
     else if (r->pattern == CLOSE)
         make_close(r, values);
+    else if (r->pattern == NEARLY)
+        make_nearly(r, values);
     else if (r->pattern == BITS)
         make_bits(r, values);
     else

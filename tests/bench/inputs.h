@@ -18,8 +18,8 @@ enum pattern {
                 always the least */
     FEW,     /* as a ladder, with eight different values in a column */
     CLOSE,   /* as a ladder, with values about three places of a column, which differ in their last bits */
-    BITS     /* as a ladder, built against the search bit by bit: most passes tell no values apart, and no bit is shared by
-                all that are left */
+    NEARLY,  /* as a ladder, with one value in a column, but for a few that differ from it in one bit each */
+    BITS     /* built against the search bit by bit: every bit takes a pass, and as many as can be take a dear one */
 };
 
 struct recipe {
