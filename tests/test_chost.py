@@ -116,7 +116,7 @@ def table_call(case, room: int, values=None) -> Call:
 
 
 def table_calls():
-    """Every table case, with verdict buffers too short, exact and longer; those of orders exact."""
+    """Every table case, with verdict buffers too short, exact and longer; those of `order` with exact ones."""
     for case in every_case_of("table"):
         needed = min(case.columns, 40)
         for room in sorted({0, max(needed, 1) - 1, needed, needed + 3}):
