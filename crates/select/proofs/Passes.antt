@@ -2,16 +2,16 @@
 --   answer-finite      the m-th smallest of finite values is finite
 --   one-pass           a pass makes one bit more that of the m-th smallest's place
 --   shared-bits        bits that all members left share are those of that place
---   search-bits        a search has all bits but its free ones right, and makes one bit more right with each pass; search-room: so these are at most 64
+--   search-bits        a search has all bits but its free ones right; with each pass fewer are free, so that there are at most 64
 --   after-passes       after p passes the top p bits held are those of that place
 --   settled            with no bit free it is that place; settled-by-64: so it is after 64 passes
 --   value-held         the value at that place is the m-th smallest
-use Prim.Native.Nat.{ℕ, zero, suc, _+_, _-_, _*_, _/_, _^_, _≤_, _<_}
+use Prim.Native.Nat.{ℕ, suc, _+_, _-_, _*_, _/_, _^_, _≤_, _<_}
 use native.Mathlib.Omega.{arith}
 use native.Mathlib.Nat.{mul-assoc, mul-comm, suc-mul, zero-mul, mul-one, div-one, div-div-eq-div-mul, le-div-iff-mul-le, pow-suc, div-eq-of-lt, div-mul-le-self, mod-lt}
 use native.Mathlib.Numerals.{add-one}
 use native.Mathlib.Decide.{decLt}
-use mathlib.Core.Path.{_≡_, sym, ap, _∙_}
+use mathlib.Core.Path.{_≡_, sym, ap, subst, _∙_}
 use mathlib.Core.Logic.{_↔_}
 use mathlib.Core.Bool.{cond}
 use mathlib.Core.List.{List}
@@ -65,7 +65,7 @@ all-bits a = mul-one (a / 1) ∙ div-one a
 no-bits : (o a : ℕ) → a < 2 ^ o → topBits o a ≡ 0
 no-bits o a h = ap (λ (q : ℕ). q * 2 ^ o) (div-eq-of-lt h) ∙ zero-mul (2 ^ o)
 
--- the top bits of more of them
+-- clearing fewer bits first changes nothing
 fewer-bits : (o f a : ℕ) → f ≤ o → topBits o (topBits f a) ≡ topBits o a
 fewer-bits o f a h =
     let e : f + (o - f) ≡ o = omega arith in
@@ -147,9 +147,8 @@ module _ (m : ℕ) (xs : List Float) (fs : Finite xs) (pos : 0 < m) (many : m �
 
   pub settled-by-64 : {h f : ℕ} → Search m xs 64 h f → h ≡ place (mthSmallest m xs)
   settled-by-64 {h} {f} s =
-      let b = search-bits s in
-      let none : f ≡ 0 = omega (arith, b .0) in
-      b .1 ∙ ap (λ (o : ℕ). topBits o (place (mthSmallest m xs))) none ∙ all-bits (place (mthSmallest m xs))
+      let none : f ≡ 0 = omega (arith, search-bits s .0) in
+      settled (subst (λ (o : ℕ). Search m xs 64 h o) none s)
 
   pub value-held : (h : ℕ) → h ≡ place (mthSmallest m xs) → valueAt h ≡ mthSmallest m xs
   value-held h e = ap valueAt e ∙ valueAt-place (mthSmallest m xs) (answer-finite m xs fs) ∙ mthSmallest-plain m xs
