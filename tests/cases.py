@@ -11,6 +11,7 @@ from generators.adjusted import adjusted_cases
 from generators.examples import example_cases
 from generators.files import file_cases, further_file_cases
 from generators.order import further_order_cases, order_cases
+from generators.putback import further_putback_cases, putback_cases, putback_step_cases
 from generators.records import record_cases
 from generators.runs import step_cases, walk_cases
 from generators.tables import further_table_cases, table_cases
@@ -27,9 +28,11 @@ FAMILIES = {
     "walk": walk_cases,
     "look": look_cases,
     "order": order_cases,
+    "putback": putback_cases,
+    "putback_step": putback_step_cases,
 }
 FURTHER = {"file": further_file_cases, "table": further_table_cases, "order": further_order_cases,
-           "adjusted": adjusted_cases}
+           "putback": further_putback_cases, "adjusted": adjusted_cases}
 EVERY_FAMILY = (*FAMILIES, *(family for family in FURTHER if family not in FAMILIES))
 
 

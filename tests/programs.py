@@ -18,6 +18,7 @@ import time
 import tty
 
 import cases
+from commands import rt
 
 ROOT = pathlib.Path(__file__).resolve().parent.parent
 LONGEST = 652
@@ -28,9 +29,7 @@ W = (ROOT / "samples" / "w.trial").read_bytes()
 
 def prove(name: str):
     """Proves and builds a program: it is built only where it is proved."""
-    done = subprocess.run(["rt", "check", name], cwd=ROOT, capture_output=True, text=True)
-    if done.returncode != 0:
-        raise RuntimeError(done.stdout + done.stderr)
+    rt("check", name)
 
 
 def failure(stream: str, number: int) -> bytes:

@@ -7,16 +7,19 @@ gcc builds it as the benchmark does, with all warnings as errors; where gcc is m
 tests fail.
 """
 
+import random
 import subprocess
 import tempfile
 import unittest
 from ctypes import (CDLL, POINTER, Structure, byref, c_double, c_int, c_int32, c_size_t, c_uint8,
                     c_uint32)
+from itertools import chain, product
 from pathlib import Path
 
-from cases import cases_of, every_case_of, every_table_case
+from cases import SEED, cases_of, every_case_of, every_table_case
 from expected import MARK
 from generators.kinds import TableCase
+from generators.tables import neighbours, normal, rounded, signed_zeros, ties
 from reference import ccall, report, table, trialfile
 from reference.refusals import Refused
 from reference.trial import Trial, full_run, rows_of, table_of
@@ -55,7 +58,8 @@ class CFullRun(Structure):
     """struct full_run"""
 
     _fields_ = [("steps", c_size_t), ("critical", c_double * 32), ("step", c_uint8 * 32),
-                ("count", c_size_t * 32), ("rejected", c_size_t), ("sets", c_size_t)]
+                ("count", c_size_t * 32), ("rejected", c_size_t), ("sets", c_size_t),
+                ("looks", c_size_t), ("rises", c_size_t)]
 
 
 class CTrial(Structure):
@@ -101,39 +105,72 @@ def lent_table(case, work) -> CTable:
                   case.observed, work, case.work_room)
 
 
+def middling_case(rng, k: int, style, rows: int, lift: float) -> TableCase:
+    """A table whose observed row is far above others in k columns or more, so that some are put back.
+
+    With a lift every sixteenth row stands out: a sample of the rows may be a bad one.
+    """
+    columns = rng.randint(k + 1, k + 6)
+    observed, high = rng.randrange(rows), rng.randint(k, columns)
+    cells = [style(rng) for _ in range(rows * columns)]
+    for g in range(0, rows if lift else 0, 16):
+        cells[g * columns:(g + 1) * columns] = [lift + style(rng) for _ in range(columns)]
+    cells[observed * columns:observed * columns + high] = [99.0] * high
+    a, b = rng.choice(((1, 20), (1, 10), (1, 3), (1, rows)))
+    return TableCase(f"middling-{style.__name__}-{rows}x{columns}-k{k}-{lift}-{a}-{b}", tuple(cells),
+                     rows, columns, k, a, b, observed, rows)
+
+
+def middling_cases():
+    """Tables of some hundred rows, for each k: ties, zeros of both signs, values that are close, noise."""
+    rng = random.Random(f"{SEED}/middling")
+    for kind in product((1, 2, 3, 4), (ties, signed_zeros, neighbours, rounded, normal),
+                        (80, 131, 300), (0.0, 5.0, -5.0)):
+        yield middling_case(rng, *kind)
+
+
 class Tables(unittest.TestCase):
+    """Full runs, in both ways."""
+
+    def check_run(self, call, case, answer, expected_work):
+        """A way's answer to a table case; the reference's, and what it leaves in the work buffer."""
+        run, work = CFullRun(), marked(c_double, case.work_room)
+        accepted = call(byref(lent_table(case, work)), byref(run))
+        if isinstance(answer, Refused):
+            self.assertEqual((accepted, bytes(run)), (0, bytes(CFullRun())), case.name)
+        else:
+            self.assertEqual((accepted, figures(run)), (1, expected_figures(answer)), case.name)
+        self.assertEqual(list(work), expected_work + [float(MARK)] * GUARD, case.name)
+
     def test_full_runs(self):
         refused = set()
-        for case in every_table_case():
-            expected_work, work = [float(MARK)] * case.work_room, marked(c_double, case.work_room)
+        for case in chain(every_table_case(), every_case_of("putback"), middling_cases()):
+            expected_work = [float(MARK)] * case.work_room
             answer = table.full_run(case.values, case.rows, case.columns, case.k, case.a, case.b,
                                     case.observed, expected_work)
-            run = CFullRun()
-            accepted = baseline.run_table(byref(lent_table(case, work)), byref(run))
+            for call in (baseline.run_table, baseline.run_by_masks):
+                self.check_run(call, case, answer, expected_work)
             if isinstance(answer, Refused):
                 refused.add(answer.number)
-                self.assertEqual((accepted, bytes(run)), (0, bytes(CFullRun())), case.name)
-            else:
-                self.assertEqual((accepted, figures(run)), (1, expected_figures(answer)), case.name)
-            self.assertEqual(list(work), expected_work + [float(MARK)] * GUARD, case.name)
         self.assertEqual(refused, {3, 4, 9, 10, 11, 12})
+
+    def check_verdicts(self, call, case, room: int):
+        expected_work, buffer = [float(MARK)] * case.work_room, bytearray([MARK]) * room
+        answer = ccall.on_table(case.values, case.rows, case.columns, case.k, case.a, case.b,
+                                case.observed, expected_work, buffer)
+        work, lent, rejected = (marked(c_double, case.work_room), marked(c_uint8, room),
+                                c_size_t(MARK))
+        accepted = call(byref(lent_table(case, work)), lent, c_size_t(room), byref(rejected))
+        self.assertEqual((accepted, rejected.value), (0, MARK) if answer > 100 else (1, answer),
+                         case.name)
+        self.assertEqual(list(work), expected_work + [float(MARK)] * GUARD, case.name)
+        self.assertEqual(bytes(lent), bytes(buffer) + bytes([MARK]) * GUARD, case.name)
 
     def test_verdicts(self):
         for case in every_table_case():
-            if len(case.values) > 4096:
-                continue
-            for room in {0, min(case.columns, 40)}:
-                expected_work, buffer = [float(MARK)] * case.work_room, bytearray([MARK]) * room
-                answer = ccall.on_table(case.values, case.rows, case.columns, case.k, case.a,
-                                        case.b, case.observed, expected_work, buffer)
-                work, lent, rejected = (marked(c_double, case.work_room), marked(c_uint8, room),
-                                        c_size_t(MARK))
-                accepted = baseline.verdicts_of_table(byref(lent_table(case, work)), lent,
-                                                      c_size_t(room), byref(rejected))
-                self.assertEqual((accepted, rejected.value),
-                                 (0, MARK) if answer > 100 else (1, answer), case.name)
-                self.assertEqual(list(work), expected_work + [float(MARK)] * GUARD, case.name)
-                self.assertEqual(bytes(lent), bytes(buffer) + bytes([MARK]) * GUARD, case.name)
+            for room in {0, min(case.columns, 40)} if len(case.values) <= 4096 else ():
+                for call in (baseline.verdicts_of_table, baseline.verdicts_by_masks):
+                    self.check_verdicts(call, case, room)
 
 
 class Adjusted(unittest.TestCase):

@@ -4,7 +4,6 @@
 either is missing the tests fail. A refused call answers its number and leaves all as it was.
 """
 
-import subprocess
 import tempfile
 import unittest
 from ctypes import CDLL, c_double, c_int32, c_size_t, c_uint8, c_uint32
@@ -12,6 +11,7 @@ from itertools import chain
 from pathlib import Path
 
 from cases import cases_of, every_case_of
+from commands import rt, run
 from expected import MARK
 from reference import ccall, report, table, trialfile
 from reference.refusals import Refused
@@ -27,12 +27,8 @@ library = None
 def setUpModule():
     global library
     shared = Path(_folder.name) / "benchcalls.so"
-    for words in (("rt", "staticlib", "benchcalls"),
-                  ("gcc", "-shared", "-Wl,--whole-archive", ARCHIVE, "-Wl,--no-whole-archive",
-                   "-o", shared)):
-        done = subprocess.run(words, cwd=ROOT, capture_output=True, text=True)
-        if done.returncode != 0:
-            raise AssertionError(f"{words[0]} failed:\n{done.stdout[-4000:]}\n{done.stderr[-4000:]}")
+    rt("staticlib", "benchcalls")
+    run("gcc", "-shared", "-Wl,--whole-archive", ARCHIVE, "-Wl,--no-whole-archive", "-o", shared)
     library = CDLL(str(shared))
 
 
@@ -106,7 +102,7 @@ class Calls(unittest.TestCase):
 
     def test_tables(self):
         refused = set()
-        for case in chain(cases_of("table"), every_case_of("order")):
+        for case in chain(cases_of("table"), every_case_of("order"), every_case_of("putback")):
             values = (c_double * max(len(case.values), 1))(*case.values)
             work, expected_work = marked(c_double, case.work_room), [float(MARK)] * case.work_room
             steps, criticals = marked(c_size_t, 1), marked(c_double, 32)

@@ -12,6 +12,7 @@ from dataclasses import dataclass
 from pathlib import Path
 
 from cases import every_case_of
+from commands import rt, run
 from expected import MARK
 from generators.kinds import TableCase
 from reference import ccall
@@ -32,13 +33,6 @@ FILE_ADJUSTED_STACK, TABLE_ADJUSTED_STACK = 112 * 1024, 32 * 1024
 _folder = tempfile.TemporaryDirectory()
 
 
-def run(*words) -> None:
-    """Run a command in the repository; what it says is told where it fails."""
-    done = subprocess.run(words, cwd=ROOT, capture_output=True, text=True)
-    if done.returncode != 0:
-        raise AssertionError(f"{words[0]} failed:\n{done.stdout[-4000:]}\n{done.stderr[-4000:]}")
-
-
 def compiled(source: str, *more) -> Path:
     """The program of a C file, linked with the library."""
     program = Path(_folder.name) / Path(source).stem
@@ -47,7 +41,7 @@ def compiled(source: str, *more) -> Path:
 
 
 def setUpModule():
-    run("rt", "staticlib", "host")
+    rt("staticlib", "host")
 
 
 def tearDownModule():
@@ -217,6 +211,13 @@ class Driver(unittest.TestCase):
         calls = list(table_calls())
         self.assertGreaterEqual(results(calls), {*range(13), 32, 103, 104, 109, 110, 111, 112})
         self.compare(calls, TABLE_STACK)
+
+    def test_put_back_tables(self):
+        """Those for the walk over put-back sets; the smaller ones for adjusted figures too, whose walk is another."""
+        cases = list(every_case_of("putback"))
+        self.compare([table_call(case, case.columns) for case in cases], TABLE_STACK)
+        self.compare([table_adjusted_call(case, case.columns) for case in cases
+                      if len(case.values) < 2000], TABLE_ADJUSTED_STACK)
 
     def test_adjusted_files(self):
         calls = list(file_adjusted_calls())

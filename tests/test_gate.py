@@ -3,6 +3,7 @@
 import os
 import shutil
 import subprocess
+import sys
 import tempfile
 import unittest
 from pathlib import Path
@@ -37,8 +38,7 @@ class Gate(Pretended):
 
     def test_all_passes(self):
         self.assertEqual(self.gate("echo $1; echo proved; echo '12 passed, 0 failed'", "echo $*"),
-                         (0, ["ci", "proved", "-m unittest discover -s tests",
-                              "12 passed, 0 failed"]))
+                         (0, ["ci", "proved", "tests/halves.py", "12 passed, 0 failed"]))
 
     def test_a_python_test_fails(self):
         self.assertEqual(self.gate("echo proved; echo '12 passed, 0 failed'",
@@ -57,6 +57,18 @@ class Gate(Pretended):
         for script in ("echo begun; exit 2", "echo begun"):
             self.assertEqual(self.gate(script), (1, ["begun", "0 passed, 1 failed"]))
         self.assertEqual(self.gate("exit 2")[1][-1], "0 passed, 1 failed")
+
+
+class OneAtATime(Pretended):
+    def test_rt(self):
+        """Processes that call `rt` at once: it fails where another one is at work."""
+        (self.folder / "crates.txt").touch()
+        (self.folder / "tests").mkdir()
+        shutil.copy(ROOT / "tests" / "commands.py", self.folder / "tests")
+        self.program("bin/rt", "mkdir at-work && sleep 0.1 && rmdir at-work")
+        calls = [subprocess.Popen([sys.executable, "-c", "from commands import rt; rt('check')"],
+                                  env=self.path, cwd=self.folder / "tests") for _ in range(4)]
+        self.assertEqual([call.wait() for call in calls], [0] * 4)
 
 
 class Run(Pretended):

@@ -3,6 +3,7 @@
  *
  * It has what the benchmark measures and no more, with the same lent buffers and without allocation:
  *   stepdown.c   full runs of tables
+ *   masks.c      the same, with the rows as masks of columns
  *   adjusted.c   adjusted figures of tables (document 02, section 1)
  *   trial.c      trial records: checks, table, full run
  *   file.c       trial files: reader and writer
@@ -47,7 +48,8 @@ struct full_run {
     uint8_t step[MOST_COLUMNS];
     size_t count[MOST_COLUMNS];
     size_t rejected;
-    size_t sets; /* how many sets of columns a critical value was worked out for */
+    size_t sets;         /* how many sets of columns were looked at: without masks, a critical value worked out */
+    size_t looks, rises; /* with masks: passes over the masks; sets that a critical value was worked out for */
 };
 
 /* A trial: the difference of offer i and pair j (from 0) stands at i * pairs + j. */
@@ -68,6 +70,9 @@ size_t allowance(size_t rows, size_t a, size_t b);
 int good_table(const struct table *table);
 
 int run_table(const struct table *table, struct full_run *run);
+
+/* The same, with the rows as masks of the columns above the largest critical value so far. */
+int run_by_masks(const struct table *table, struct full_run *run);
 
 /* The adjusted figure of each column, by one pass down the observed values. No level is looked at. */
 int figures_of_table(const struct table *table, uint32_t *figures, size_t places);
@@ -99,5 +104,6 @@ int report(const uint8_t *file, size_t length, char *out, size_t places, size_t 
 /* Of a file or a table: the step of each offer or column, and how many are rejected. */
 int verdicts_of_file(const uint8_t *file, size_t length, uint8_t *verdicts, size_t places, size_t *rejected);
 int verdicts_of_table(const struct table *table, uint8_t *verdicts, size_t places, size_t *rejected);
+int verdicts_by_masks(const struct table *table, uint8_t *verdicts, size_t places, size_t *rejected);
 
 #endif

@@ -73,12 +73,24 @@ int verdicts_of_file(const uint8_t *file, size_t length, uint8_t *verdicts, size
     return 1;
 }
 
-int verdicts_of_table(const struct table *t, uint8_t *verdicts, size_t places, size_t *rejected)
+/* The verdicts of a table, which that call runs. */
+static int verdicts_by(int (*run_of)(const struct table *, struct full_run *), const struct table *t, uint8_t *verdicts,
+                       size_t places, size_t *rejected)
 {
     struct full_run run;
-    if (places < t->columns || !run_table(t, &run))
+    if (places < t->columns || !run_of(t, &run))
         return 0;
     memcpy(verdicts, run.step, t->columns);
     *rejected = run.rejected;
     return 1;
+}
+
+int verdicts_of_table(const struct table *t, uint8_t *verdicts, size_t places, size_t *rejected)
+{
+    return verdicts_by(run_table, t, verdicts, places, rejected);
+}
+
+int verdicts_by_masks(const struct table *t, uint8_t *verdicts, size_t places, size_t *rejected)
+{
+    return verdicts_by(run_by_masks, t, verdicts, places, rejected);
 }

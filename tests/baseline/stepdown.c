@@ -1,8 +1,7 @@
 /* Full runs of tables. A set of columns is a list of column numbers. */
 #include <math.h>
-#include <string.h>
 
-#include "baseline.h"
+#include "steps.h"
 
 int good_level(size_t a, size_t b)
 {
@@ -34,12 +33,6 @@ int good_table(const struct table *t)
            all_finite(t->values, t->length) && t->rows <= t->places;
 }
 
-/* Plus zero for either zero. */
-static double plus_zero(double x)
-{
-    return x == 0 ? 0 : x;
-}
-
 /* The k-th largest value of a row over the n columns of a set. */
 static double k_max(const double *row, const uint8_t *set, size_t n, size_t k)
 {
@@ -54,41 +47,6 @@ static double k_max(const double *row, const uint8_t *set, size_t n, size_t k)
         top[j] = x;
     }
     return top[k - 1];
-}
-
-static double middle(double x, double y, double z)
-{
-    if (x < y)
-        return y < z ? y : x < z ? z : x;
-    return x < z ? x : y < z ? z : y;
-}
-
-/* The m-th smallest of n values, m from 0, by quickselect with the middle of three as the pivot. Reorders them. */
-static double select_smallest(double *v, size_t n, size_t m)
-{
-    ptrdiff_t low = 0, high = (ptrdiff_t)n - 1, want = (ptrdiff_t)m;
-    while (low < high) {
-        double pivot = middle(v[low], v[low + (high - low) / 2], v[high]);
-        ptrdiff_t i = low, j = high;
-        while (i <= j) {
-            while (v[i] < pivot)
-                i++;
-            while (pivot < v[j])
-                j--;
-            if (i <= j) {
-                double x = v[i];
-                v[i++] = v[j];
-                v[j--] = x;
-            }
-        }
-        if (want <= j)
-            high = j;
-        else if (want >= i)
-            low = i;
-        else
-            break;
-    }
-    return v[want];
 }
 
 /* c(K): the (M - e)-th smallest k-max over the n columns of a set. */
@@ -133,40 +91,7 @@ static double next_critical_value(const struct table *t, struct full_run *run)
     return put_back(t, run, set, kept, rejected, gone, run->steps == 0 ? 0 : t->k - 1, -INFINITY);
 }
 
-/* One step; answers whether the run goes on. */
-static int step(const struct table *t, struct full_run *run)
-{
-    const double *seen = t->values + t->observed * t->columns;
-    double c = next_critical_value(t, run);
-    size_t before = run->rejected;
-    run->critical[run->steps++] = c;
-    for (size_t j = 0; j < t->columns; j++) {
-        if (run->step[j] == 0 && seen[j] > c) {
-            run->step[j] = (uint8_t)run->steps;
-            run->rejected++;
-        }
-    }
-    return run->rejected > before && run->rejected >= t->k && run->rejected < t->columns;
-}
-
-/* How many rows reach each column's observed value. */
-static void count_rows(const struct table *t, struct full_run *run)
-{
-    const double *seen = t->values + t->observed * t->columns;
-    for (size_t g = 0; g < t->rows; g++)
-        for (size_t j = 0; j < t->columns; j++)
-            run->count[j] += t->values[g * t->columns + j] >= seen[j];
-}
-
 int run_table(const struct table *t, struct full_run *run)
 {
-    if (!good_level(t->a, t->b) || !good_table(t))
-        return 0;
-    memset(run, 0, sizeof *run);
-    while (step(t, run))
-        ;
-    for (size_t g = 0; g < t->rows; g++)
-        t->work[g] = 0;
-    count_rows(t, run);
-    return 1;
+    return run_by(t, run, next_critical_value);
 }

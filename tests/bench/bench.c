@@ -16,9 +16,25 @@ static const struct task tasks[] = {
     {"Full runs of tables", 0, "512 x 16", RUN, {WINNERS, 512, 16, 1, 8}},
     {NULL, 0, "512 x 16", RUN, {WINNERS, 512, 16, 3, 8}},
     {NULL, 0, "4096 x 32", RUN, {WINNERS, 4096, 32, 1, 22}},
+    {NULL, 0, "4096 x 32", RUN, {WINNERS, 4096, 32, 2, 22}},
+    {NULL, 0, "4096 x 32", RUN, {WINNERS, 4096, 32, 3, 22}},
     {NULL, 0, "4096 x 32", RUN, {WINNERS, 4096, 32, 4, 22}},
     {NULL, 0, "4096 x 32, ladder", RUN, {LADDER, 4096, 32, 1, 0}},
     {NULL, 0, "4096 x 32, ladder", RUN, {LADDER, 4096, 32, 4, 0}},
+    {"Full runs of tables, C by masks", 0, "512 x 16, C by masks", MASKS, {WINNERS, 512, 16, 1, 8}},
+    {NULL, 0, "512 x 16, C by masks", MASKS, {WINNERS, 512, 16, 3, 8}},
+    {NULL, 0, "4096 x 32, C by masks", MASKS, {WINNERS, 4096, 32, 1, 22}},
+    {NULL, 0, "4096 x 32, C by masks", MASKS, {WINNERS, 4096, 32, 2, 22}},
+    {NULL, 0, "4096 x 32, C by masks", MASKS, {WINNERS, 4096, 32, 3, 22}},
+    {NULL, 0, "4096 x 32, C by masks", MASKS, {WINNERS, 4096, 32, 4, 22}},
+    {NULL, 0, "4096 x 32, ladder, C by masks", MASKS, {LADDER, 4096, 32, 1, 0}},
+    {NULL, 0, "4096 x 32, ladder, C by masks", MASKS, {LADDER, 4096, 32, 4, 0}},
+    {NULL, 0, "4096 x 32, each set, C by masks", MASKS, {EACH, 4096, 32, 2, 22}},
+    {NULL, 0, "4096 x 32, each set, C by masks", MASKS, {EACH, 4096, 32, 3, 22}},
+    {NULL, 0, "4096 x 32, each set, C by masks", MASKS, {EACH, 4096, 32, 4, 22}},
+    {NULL, 0, "4096 x 32, last set, C by masks", MASKS, {FINAL, 4096, 32, 2, 22}},
+    {NULL, 0, "4096 x 32, last set, C by masks", MASKS, {FINAL, 4096, 32, 3, 22}},
+    {NULL, 0, "4096 x 32, last set, C by masks", MASKS, {FINAL, 4096, 32, 4, 22}},
     {"Adjusted figures of tables", 0, "512 x 16", ADJUSTED, {WINNERS, 512, 16, 1, 8}},
     {NULL, 0, "512 x 16", ADJUSTED, {WINNERS, 512, 16, 4, 8}},
     {NULL, 0, "4096 x 32", ADJUSTED, {WINNERS, 4096, 32, 1, 22}},
@@ -40,19 +56,23 @@ static const struct task tasks[] = {
     {NULL, 0, "report, opposite offers", REPORT, {VALLEY, .k = 4}},
     {NULL, 0, "reading", READING, {.k = 4}},
     {NULL, 0, "writing", WRITING, {.k = 4}},
-    {"Growth with rows", 1, "256 x 16", RUN, {WINNERS, 256, 16, 2, 8}},
-    {NULL, 1, "512 x 16", RUN, {WINNERS, 512, 16, 2, 8}},
-    {NULL, 1, "1024 x 16", RUN, {WINNERS, 1024, 16, 2, 8}},
-    {NULL, 1, "2048 x 16", RUN, {WINNERS, 2048, 16, 2, 8}},
-    {NULL, 1, "4096 x 16", RUN, {WINNERS, 4096, 16, 2, 8}},
-    {"Growth with columns", 1, "1024 x 4", RUN, {WINNERS, 1024, 4, 2, 3}},
-    {NULL, 1, "1024 x 8", RUN, {WINNERS, 1024, 8, 2, 3}},
-    {NULL, 1, "1024 x 16", RUN, {WINNERS, 1024, 16, 2, 3}},
-    {NULL, 1, "1024 x 32", RUN, {WINNERS, 1024, 32, 2, 3}},
-    {"Growth with k", 1, "1024 x 32", RUN, {WINNERS, 1024, 32, 1, 24}},
-    {NULL, 1, "1024 x 32", RUN, {WINNERS, 1024, 32, 2, 24}},
-    {NULL, 1, "1024 x 32", RUN, {WINNERS, 1024, 32, 3, 24}},
-    {NULL, 1, "1024 x 32", RUN, {WINNERS, 1024, 32, 4, 24}},
+    {"Growth with rows, C by masks", 1, "256 x 16", MASKS, {WINNERS, 256, 16, 2, 8}},
+    {NULL, 1, "512 x 16", MASKS, {WINNERS, 512, 16, 2, 8}},
+    {NULL, 1, "1024 x 16", MASKS, {WINNERS, 1024, 16, 2, 8}},
+    {NULL, 1, "2048 x 16", MASKS, {WINNERS, 2048, 16, 2, 8}},
+    {NULL, 1, "4096 x 16", MASKS, {WINNERS, 4096, 16, 2, 8}},
+    {"Growth with columns, C by masks", 1, "1024 x 4", MASKS, {WINNERS, 1024, 4, 2, 3}},
+    {NULL, 1, "1024 x 8", MASKS, {WINNERS, 1024, 8, 2, 3}},
+    {NULL, 1, "1024 x 16", MASKS, {WINNERS, 1024, 16, 2, 3}},
+    {NULL, 1, "1024 x 32", MASKS, {WINNERS, 1024, 32, 2, 3}},
+    {"Growth with k, C by masks", 1, "1024 x 32", MASKS, {WINNERS, 1024, 32, 1, 24}},
+    {NULL, 1, "1024 x 32", MASKS, {WINNERS, 1024, 32, 2, 24}},
+    {NULL, 1, "1024 x 32", MASKS, {WINNERS, 1024, 32, 3, 24}},
+    {NULL, 1, "1024 x 32", MASKS, {WINNERS, 1024, 32, 4, 24}},
+    {"Growth with rejected columns, C by masks", 1, "1024 x 32, 6 rejected", MASKS, {WINNERS, 1024, 32, 4, 6}},
+    {NULL, 1, "1024 x 32, 12 rejected", MASKS, {WINNERS, 1024, 32, 4, 12}},
+    {NULL, 1, "1024 x 32, 18 rejected", MASKS, {WINNERS, 1024, 32, 4, 18}},
+    {NULL, 1, "1024 x 32, 24 rejected", MASKS, {WINNERS, 1024, 32, 4, 24}},
     {"Order and nearness of the values", 0, "4096 x 1, any order", RUN, {LADDER, 4096, 1, 1, 0}},
     {NULL, 0, "4096 x 1, rising", RUN, {RISING, 4096, 1, 1, 0}},
     {NULL, 0, "4096 x 1, falling", RUN, {FALLING, 4096, 1, 1, 0}},
@@ -92,26 +112,38 @@ static const char *counted(char *text, size_t room, size_t n)
     return text;
 }
 
+/* Of a baseline with masks, looks at them and rises; otherwise the sets. */
 static void print_head(const struct task *task)
 {
+    int masks = task->kind == MASKS;
     printf("\n%s\n\n", task->title);
-    printf("| %-33s | k | steps | rejected |  sets |  C least | C median | library least | library median |  ratio |",
-           "input");
+    printf("| %-33s | k | steps | rejected | %s |  C least | C median | library least | library median |  ratio |",
+           "input", masks ? "looks | rises" : " sets");
     puts(task->grows ? " C grows | library grows |" : "");
-    printf("|-----------------------------------|---|-------|----------|-------|----------|----------|---------------|"
-           "----------------|--------|");
+    printf("|-----------------------------------|---|-------|----------|%s|----------|----------|---------------|"
+           "----------------|--------|", masks ? "-------|-------" : "-------");
     puts(task->grows ? "---------|---------------|" : "");
+}
+
+static void print_facts(size_t i)
+{
+    char cell[4][24];
+    printf("| %-33s | %zu | %5s | %8s |", tasks[i].name, tasks[i].recipe.k,
+           counted(cell[0], sizeof cell[0], facts[i].steps), counted(cell[1], sizeof cell[1], facts[i].rejected));
+    if (tasks[i].kind == MASKS)
+        printf(" %5s | %5s |", counted(cell[2], sizeof cell[2], facts[i].looks),
+               counted(cell[3], sizeof cell[3], facts[i].rises));
+    else
+        printf(" %5s |", counted(cell[2], sizeof cell[2], facts[i].sets));
 }
 
 static void print_times(size_t i)
 {
-    char cell[7][24];
+    char cell[4][24];
     const struct timing *c = &timings[i][BASELINE], *l = &timings[i][LIBRARY];
-    printf("| %-33s | %zu | %5s | %8s | %5s | %8s | %8s | %13s | %14s | %6.2f |", tasks[i].name, tasks[i].recipe.k,
-           counted(cell[0], sizeof cell[0], facts[i].steps), counted(cell[1], sizeof cell[1], facts[i].rejected),
-           counted(cell[2], sizeof cell[2], facts[i].sets), shown(cell[3], sizeof cell[3], c->least),
-           shown(cell[4], sizeof cell[4], c->median), shown(cell[5], sizeof cell[5], l->least),
-           shown(cell[6], sizeof cell[6], l->median), l->least / c->least);
+    printf(" %8s | %8s | %13s | %14s | %6.2f |", shown(cell[0], sizeof cell[0], c->least),
+           shown(cell[1], sizeof cell[1], c->median), shown(cell[2], sizeof cell[2], l->least),
+           shown(cell[3], sizeof cell[3], l->median), l->least / c->least);
     if (tasks[i].grows && tasks[i].title != NULL)
         printf(" %7s | %13s |", "", "");
     else if (tasks[i].grows)
@@ -130,7 +162,7 @@ static void compare_all(void)
         facts[i] = compare(&tasks[i]);
         inputs += inputs_of(&tasks[i]);
     }
-    printf("%zu inputs: the library and the baseline answer the same\n", inputs);
+    printf("%zu inputs: the library and the baselines answer the same\n", inputs);
 }
 
 static void time_all(void)
@@ -140,6 +172,7 @@ static void time_all(void)
         time_both(calls_of(&tasks[i]), inputs_of(&tasks[i]), timings[i]);
         if (tasks[i].title != NULL)
             print_head(&tasks[i]);
+        print_facts(i);
         print_times(i);
         fflush(stdout);
     }
@@ -167,9 +200,9 @@ static long peak(size_t i, const char *which)
 
 static const char *asked_by(const struct task *task)
 {
-    return task->kind == RUN                                 ? "run"
+    return runs_table(task)                                 ? "run"
            : task->kind == ADJUSTED || task->kind == MAXIMA ? "figures"
-                                                             : "file";
+                                                            : "file";
 }
 
 static void print_memory(void)

@@ -46,6 +46,59 @@ static void make_winners(const struct recipe *r, double *values)
         values[j] = j < r->winners ? 100 + noise() : 0;
 }
 
+/* The next choice of so many of n numbers in lexicographic order. After the last one the first: then it answers 0. */
+static int next_choice(size_t *choice, size_t size, size_t n)
+{
+    size_t i = size;
+    while (i > 0 && choice[i - 1] == n - size + i - 1)
+        i--;
+    if (i > 0)
+        choice[i - 1]++;
+    for (size_t j = i; j < size; j++)
+        choice[j] = j == 0 ? 0 : choice[j - 1] + 1;
+    return i > 0;
+}
+
+static size_t choices_of(size_t size, size_t n)
+{
+    size_t choice[] = {0, 1, 2}, all = 1;
+    while (next_choice(choice, size, n))
+        all++;
+    return all;
+}
+
+/* A row with values from `least` to 1 above it in a set of columns and in so many after the winners; others below 0. */
+static void make_row(const struct recipe *r, const size_t *set, size_t size, size_t others, double least, double *row)
+{
+    for (size_t j = 0; j < r->columns; j++)
+        row[j] = (j >= r->winners && j < r->winners + others ? least : -1) + uniform();
+    for (size_t i = 0; i < size; i++)
+        row[set[i]] = least + uniform();
+}
+
+/*
+ * The rows after the observed one have k high values each: some of them in k columns after the winners, so that they
+ * count for every set, the others in one such column and in a set, by turns, so that they count for that one. In EACH e
+ * rows count for every set, and c(K) is the largest value of the set's own rows. In FINAL own rows make it e at most,
+ * and c(K) is none of these values, but for the last set, which has more of them.
+ */
+static void make_sets(const struct recipe *r, double *values)
+{
+    size_t size = r->k - 1, n = r->winners, e = r->rows / 20, own = (r->rows - e) / choices_of(size, n) + 1;
+    size_t high = r->pattern == EACH ? e : e - own, more = r->pattern == EACH ? 0 : own + 1;
+    size_t set[] = {0, 1, 2}, last[] = {n - size, n - size + 1, n - size + 2}, number = 0, g = 1;
+    for (size_t j = 0; j < r->columns; j++)
+        values[j] = j < n ? 10000 + noise() : 0;
+    for (; g <= high; g++)
+        make_row(r, set, 0, r->k, 5000, values + g * r->columns);
+    for (; g <= high + more; g++)
+        make_row(r, last, size, 1, 1, values + g * r->columns);
+    for (; g < r->rows; g++) {
+        make_row(r, set, size, 1, r->pattern == EACH ? 1 + (double)number : 1, values + g * r->columns);
+        number = next_choice(set, size, n) ? number + 1 : 0;
+    }
+}
+
 static int by_value(const void *x, const void *y)
 {
     double a = *(const double *)x, b = *(const double *)y;
@@ -193,6 +246,8 @@ void make_table(const struct recipe *r, size_t number, struct table *t)
     state = SEED + number;
     if (r->pattern == WINNERS)
         make_winners(r, values);
+    else if (r->pattern == EACH || r->pattern == FINAL)
+        make_sets(r, values);
     else if (r->pattern == SLOPE)
         make_slope(r, values);
     else if (r->pattern == LADDER)
@@ -207,7 +262,7 @@ void make_table(const struct recipe *r, size_t number, struct table *t)
         make_bits(r, values);
     else
         observed = make_ordered(r, values);
-    if (r->pattern != WINNERS && r->pattern != SLOPE)
+    if (r->pattern >= LADDER) /* all from there on are ladders */
         make_largest(r, values + observed * r->columns);
     *t = (struct table){values, r->rows * r->columns, r->rows, r->columns, r->k, 1, 20, observed, NULL, 0};
 }

@@ -8,6 +8,10 @@
 enum pattern {
     WINNERS, /* noise; in the observed row the first columns stand far above it, and the others at zero: step 1 rejects
                 the first ones, step 2 none */
+    EACH,    /* step 1 rejects the first columns, step 2 none. Of the sets that step 2 puts back, k - 1 of the first
+                columns in lexicographic order, each has a larger critical value than all before it */
+    FINAL,   /* the same, but of the later sets only the last one has a larger critical value than the first; and in
+                each branch of the walk with two sets or more so many rows can count that it can't be left */
     SLOPE,   /* noise; observed values fall from column to column, and with k = 4 each figure is above those before */
     LADDER,  /* each column lies above all later ones: step 1 rejects k columns, each later step one */
     RISING,  /* as a ladder, with every column in this order from row to row */
@@ -25,7 +29,7 @@ enum pattern {
 struct recipe {
     enum pattern pattern;
     size_t rows, columns, k;
-    size_t winners; /* of WINNERS */
+    size_t winners; /* the first columns of WINNERS, EACH and FINAL */
 };
 
 /* The table of a recipe and a number, at level 1/20. Its values are allocated; it has no work buffer yet. */

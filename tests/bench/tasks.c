@@ -49,6 +49,12 @@ static void run_baseline(void)
     accepted(verdicts_of_table(&next(BASELINE)->table, a->bytes, MOST_COLUMNS, &a->number), "baseline");
 }
 
+static void masks_baseline(void)
+{
+    struct answer *a = &answers[BASELINE];
+    accepted(verdicts_by_masks(&next(BASELINE)->table, a->bytes, MOST_COLUMNS, &a->number), "baseline");
+}
+
 static void run_library(void)
 {
     const struct table *t = &next(LIBRARY)->table;
@@ -137,6 +143,7 @@ const call *calls_of(const struct task *task)
 {
     static const call calls[KINDS][BOTH] = {
         [RUN] = {run_baseline, run_library},
+        [MASKS] = {masks_baseline, run_library},
         [ADJUSTED] = {adjusted_baseline, adjusted_library},
         [MAXIMA] = {maxima_baseline, adjusted_library},
         [VERDICTS] = {verdicts_baseline, verdicts_library},
@@ -165,9 +172,14 @@ static void make_file(const struct task *task, size_t number, struct input *in)
         fail("not a largest file", task->name);
 }
 
+int runs_table(const struct task *task)
+{
+    return task->kind == RUN || task->kind == MASKS;
+}
+
 static int of_tables(const struct task *task)
 {
-    return task->kind == RUN || task->kind == ADJUSTED || task->kind == MAXIMA;
+    return runs_table(task) || task->kind == ADJUSTED || task->kind == MAXIMA;
 }
 
 size_t inputs_of(const struct task *task)
@@ -216,24 +228,55 @@ static void check_cleared(const struct task *task)
     same(memcmp(work, cleared, sizeof cleared) == 0, task, "the work buffer is not cleared");
 }
 
-/* All that a full run of a table answers. */
+/* The walk, of so many sets with that of step 1, did what the table was made for. */
+static void check_walk(const struct task *task, size_t sets, const struct full_run *masks)
+{
+    const struct recipe *r = &task->recipe;
+    if (r->pattern == EACH)
+        same(masks->rises == sets, task, "not every set rises");
+    if (r->pattern == FINAL)
+        same(masks->rises == 3 && 10 * masks->sets >= 9 * sets, task, "not the last set alone rises, or many are left");
+}
+
+/* What the library answers to a table, in the baseline's form. */
+static void run_of_library(const struct task *task, const struct table *t, struct full_run *run)
+{
+    size_t verdicts[MOST_COLUMNS];
+    uint32_t refusal = bench_table(t->values, t->length, t->rows, t->columns, t->k, t->a, t->b, t->observed, t->work,
+                                   t->places, &run->steps, run->critical, run->count, verdicts);
+    same(refusal == 0, task, "the library refuses the table");
+    for (size_t j = 0; j < MOST_COLUMNS; j++) {
+        run->step[j] = (uint8_t)verdicts[j];
+        same(run->step[j] == verdicts[j], task, "a step beyond all steps");
+    }
+}
+
+static void compare_runs(const struct task *task, const struct full_run *x, const struct full_run *y)
+{
+    same(x->steps == y->steps, task, "steps differ");
+    same(memcmp(x->critical, y->critical, sizeof x->critical) == 0, task, "critical values differ");
+    same(memcmp(x->count, y->count, sizeof x->count) == 0, task, "counts differ");
+    same(memcmp(x->step, y->step, sizeof x->step) == 0, task, "verdicts differ");
+}
+
+/* All that a full run of a table answers: both baselines and the library. */
 static struct facts compare_run(const struct task *task, const struct table *t)
 {
-    struct full_run run;
-    size_t steps, counts[MOST_COLUMNS], verdicts[MOST_COLUMNS];
-    double criticals[MOST_COLUMNS];
-    same(run_table(t, &run), task, "the baseline refuses the table");
+    struct full_run plain, masks, library;
     soil_work(t->rows);
-    uint32_t refusal = bench_table(t->values, t->length, t->rows, t->columns, t->k, t->a, t->b, t->observed, t->work,
-                                   t->places, &steps, criticals, counts, verdicts);
-    same(refusal == 0, task, "the library refuses the table");
-    same(steps == run.steps, task, "steps differ");
-    same(memcmp(criticals, run.critical, sizeof criticals) == 0, task, "critical values differ");
-    same(memcmp(counts, run.count, sizeof counts) == 0, task, "counts differ");
-    for (size_t j = 0; j < MOST_COLUMNS; j++)
-        same(verdicts[j] == run.step[j], task, "verdicts differ");
+    same(run_table(t, &plain), task, "the baseline refuses the table");
     check_cleared(task);
-    return (struct facts){run.steps, run.rejected, run.sets, {0, 0}};
+    soil_work(t->rows);
+    same(run_by_masks(t, &masks), task, "the baseline refuses the table");
+    check_cleared(task);
+    soil_work(t->rows);
+    run_of_library(task, t, &library);
+    check_cleared(task);
+    compare_runs(task, &plain, &masks);
+    compare_runs(task, &plain, &library);
+    same(plain.rejected == masks.rejected, task, "rejections differ");
+    check_walk(task, plain.sets, &masks);
+    return (struct facts){plain.steps, plain.rejected, plain.sets, masks.looks, masks.rises, {0, 0}};
 }
 
 /* The figures of both, and that they are at most e where the full run at the table's level rejects. */
@@ -250,12 +293,12 @@ static struct facts compare_adjusted(const struct task *task, const struct table
     return (struct facts){0};
 }
 
-/* A table is what its recipe says: in a ladder one column falls in each step after the first, which rejects k. */
+/* A table is what its recipe says. In a ladder one column falls in each step after the first, which rejects k. */
 static void check_recipe(const struct task *task, const struct facts *facts)
 {
     const struct recipe *r = &task->recipe;
     same(answers[BASELINE].number == facts->rejected, task, "rejections differ");
-    if (r->pattern == WINNERS) {
+    if (r->pattern == WINNERS || r->pattern == EACH || r->pattern == FINAL) {
         same(facts->steps == 2 && facts->rejected == r->winners, task, "not the winners alone are rejected");
         return;
     }
@@ -285,7 +328,7 @@ static struct facts compare_file(const struct task *task, const struct input *in
     if (task->kind == READING || task->kind == WRITING)
         return (struct facts){0};
     run_trial(&in->trial, &run);
-    return (struct facts){run.steps, run.rejected, run.sets, {0, 0}};
+    return (struct facts){run.steps, run.rejected, run.sets, 0, 0, {0, 0}};
 }
 
 static struct facts compare_one(const struct task *task, const struct input *in)
@@ -299,10 +342,10 @@ static struct facts compare_one(const struct task *task, const struct input *in)
     }
     same(answers[BASELINE].number == answers[LIBRARY].number, task, "results differ");
     same(memcmp(answers[BASELINE].bytes, answers[LIBRARY].bytes, LONGEST_REPORT) == 0, task, "bytes differ");
-    struct facts facts = task->kind == RUN   ? compare_run(task, &in->table)
+    struct facts facts = runs_table(task)  ? compare_run(task, &in->table)
                          : of_tables(task) ? compare_adjusted(task, &in->table)
                                            : compare_file(task, in);
-    if (task->kind == RUN)
+    if (runs_table(task))
         check_recipe(task, &facts);
     memcpy(facts.stack, stack, sizeof stack);
     return facts;

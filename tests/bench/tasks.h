@@ -7,6 +7,7 @@
 
 enum kind {
     RUN,      /* full run of a table */
+    MASKS,    /* the same, against a baseline with the rows as masks */
     ADJUSTED, /* its adjusted figures */
     MAXIMA,   /* the same, against a baseline that counts the rows' maxima first */
     VERDICTS, /* the call for C on a largest file */
@@ -28,10 +29,16 @@ struct task {
 /* The two implementations, where something is said of each. */
 enum { BASELINE, LIBRARY, BOTH };
 
-/* What the full run of an input did, the same for all of a task, and the bytes of stack that each call has used. */
+/*
+ * What the full run of an input did, and the bytes of stack that each call has used. Steps, rejections and sets are the
+ * same for all inputs of a task; looks and rises, of a baseline with masks, are those of the first one.
+ */
 struct facts {
-    size_t steps, rejected, sets, stack[BOTH];
+    size_t steps, rejected, sets, looks, rises, stack[BOTH];
 };
+
+/* Whether a task's input is a table that is run. */
+int runs_table(const struct task *task);
 
 /* How many different inputs of a task are called by turns: tables of 131,072 values together, and 16 files. */
 size_t inputs_of(const struct task *task);

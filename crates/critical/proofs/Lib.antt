@@ -1,5 +1,5 @@
 pub mod RowMax
+pub mod Members
 pub mod TableRows
-pub mod PutBackWalk
-pub mod PutBackValue
+pub mod Raising
 pub mod Tally

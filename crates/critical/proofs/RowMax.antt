@@ -1,45 +1,32 @@
--- The four largest values of a row over a set, met one by one.
+-- The four largest values of a list, met one by one.
 --   Top4 total rest t    the j-th of t is above v exactly where j values above v are seen: of `total v`, `rest v` are still to come
---   top-start, top-push, top-skip     at the start, with a value pushed, with a column passed over
---   kMax-found           with nothing to come, the k-th of t is the k-max, with plus zero for either zero
-use Prim.Native.Nat.{ℕ, zero, suc, _+_, _-_, _/_, _%_, _≤_, _<_}
+--   top-start, top-push  at the start, with a value pushed
+--   nth-first, nth-second, nth-third, nth-fourth     the k-th of four, by tests of k
+--   nth-largest          with nothing to come, the k-th of t is the k-th largest, with plus zero for either zero
+use Prim.Native.Nat.{ℕ, zero, suc, _+_, _-_, _/_, _%_, _≤_, _<_, max, min}
 use native.Mathlib.Omega.{arith}
 use native.Mathlib.Numerals.{add-one}
-use native.Mathlib.Decide.{decLt}
-use mathlib.Core.Path.{_≡_, refl, sym, ap, ap₂, _∙_}
+use native.Mathlib.Decide.{decLt, decLe}
+use mathlib.Core.Path.{_≡_, refl, sym, ap, ap₂, _∙_, subst}
 use mathlib.Core.Logic.{_↔_}
 use mathlib.Core.Bool.{Bool, true, false, cond}
-use mathlib.Core.List.{List, _∷_}
-use lib.ListN.{length, getD, drop}
+use mathlib.Core.List.{List, [], _∷_, map}
+use lib.ListN.{length, getD, drop, take, set}
 use lib.Seq.{drop-cons}
-use lib.Dec.{T, ltb, eqb}
+use lib.Dec.{T, ltb, eqb, lt→ltb}
 use lib.Ieee.{Float, nan, inf, fin, lt}
 use borrow.Author.Tests.{lt-ltb, le-ltb, ltb-true, ltb-false, eq-eqb, ne-eqb}
-use Rattle.order.specs.Order.{finite, smaller, withPlusZero}
-use Rattle.order.specs.Counting.{bit, count}
-use Rattle.order.proofs.Booleans.{not-below}
-use Rattle.order.proofs.Counts.{all-getD}
-use Rattle.order.proofs.Infinities.{low, finite-low}
-use Rattle.order.proofs.Keys.{key, key-some, smaller-key, withPlusZero-same}
+use Rattle.order.specs.Order.{finite, low, smaller, larger, lesser, withPlusZero}
+use Rattle.order.specs.Counting.{bit, count, all}
+use Rattle.order.proofs.Booleans.{not-below, and-left, and-right, and-both}
+use Rattle.order.proofs.Infinities.{finite-low, low-finite, smaller-low}
+use Rattle.order.proofs.Keys.{key, key-some, withPlusZero-same}
 use Rattle.order.proofs.Rows.{Finite}
 use Rattle.select.specs.Rank.{kthLargest}
 use Rattle.select.proofs.Ranks.{Ranks, above, kthLargest-ranks, kthLargest-law}
 use Rattle.columns.specs.Columns.{Columns, size, within, columnsOf}
-use Rattle.columns.proofs.Sets.{within-all, within-length}
-use Rattle.columns.proofs.Masks.{columnsOf-length}
-use Rattle.method.specs.Method.{kMax}
-use Rattle.critical.specs.Internal.{four, pushed, nth}
+use Rattle.critical.specs.Internal.{four, blank, pushed, topFrom, nth, membersFrom}
 use Rattle.critical.specs.declared.kmax.Top.{Top}
-
--- a low bound is below a finite value by their keys, minus infinity's being 0
-pub smaller-low : (t x : Float) → T (low t) → T (finite x) → smaller t x ≡ ltb (key t) (key x)
-unfolding finite lt key
-smaller-low nan x l f = absurd l
-smaller-low (inf true) nan l f = absurd f
-smaller-low (inf true) (inf s) l f = absurd f
-smaller-low (inf true) (fin s m e) l f = sym (lt-ltb 0 (key (fin s m e)) (key-some (fin s m e) f))
-smaller-low (inf false) x l f = absurd l
-smaller-low (fin s m e) x l f = smaller-key (fin s m e) x l f
 
 -- ---- counts over keys
 
@@ -99,123 +86,96 @@ module _ (total rest rest′ : ℕ → ℕ) (x : ℕ) (step : (v : ℕ) → rest
 falls : (total rest : ℕ → ℕ) (j y z : ℕ) → Seen total rest (suc j) y → Seen total rest j z → y ≤ z
 falls total rest j y z s p = not-below z y (λ h. let g : z < z = p z .1 (omega (arith, s z .0 h)) in omega arith)
 
-module _ (total rest rest′ : ℕ → ℕ) (t : Top) (x : Float) (f : T (finite x)) (step : (v : ℕ) → rest v ≡ bit (ltb v (key x)) + rest′ v) (h : Top4 total rest t) where
-  less : (y : Float) → T (low y) → smaller y x ≡ true → key y < key x
-  less y l e = ltb-true (key y) (key x) (sym (smaller-low y x l f) ∙ e)
+-- the larger and the lesser of two by their keys
+either-low : (b : Bool) (x y : Float) → T (low x) → T (low y) → T (low (cond b x y))
+either-low true x y l m = l
+either-low false x y l m = m
 
-  more : (y : Float) → T (low y) → smaller y x ≡ false → key x ≤ key y
-  more y l e = ltb-false (key y) (key x) (sym (smaller-low y x l f) ∙ e)
+larger-key : (b c : Float) → T (low b) → T (low c) → (key b ≤ key c → key (larger b c) ≡ key c) × (key c ≤ key b → key (larger b c) ≡ key b)
+larger-key b c l m = go (smaller b c) (smaller-low b c l m)
+  where
+    go : (t : Bool) → t ≡ ltb (key b) (key c) → (key b ≤ key c → key (cond t c b) ≡ key c) × (key c ≤ key b → key (cond t c b) ≡ key b)
+    go true e = (λ h. refl, λ h. omega (arith, ltb-true (key b) (key c) (sym e)))
+    go false e = (λ h. omega (arith, ltb-false (key b) (key c) (sym e)), λ h. refl)
 
-  still : (v : ℕ) → rest′ v ≤ total v
-  still v = omega (arith, step v, h .some v)
+lesser-key : (b c : Float) → T (low b) → T (low c) → (key b ≤ key c → key (lesser b c) ≡ key b) × (key c ≤ key b → key (lesser b c) ≡ key c)
+lesser-key b c l m = go (smaller b c) (smaller-low b c l m)
+  where
+    go : (t : Bool) → t ≡ ltb (key b) (key c) → (key b ≤ key c → key (cond t b c) ≡ key b) × (key c ≤ key b → key (cond t b c) ≡ key c)
+    go true e = (λ h. refl, λ h. omega (arith, ltb-true (key b) (key c) (sym e)))
+    go false e = (λ h. omega (arith, ltb-false (key b) (key c) (sym e)), λ h. refl)
 
-  ba : key (t .b) ≤ key (t .a)
-  ba = falls total rest 1 (key (t .b)) (key (t .a)) (h .second) (h .first)
+module _ (total rest rest′ : ℕ → ℕ) (x : Float) (f : T (finite x)) (step : (v : ℕ) → rest v ≡ bit (ltb v (key x)) + rest′ v) (some : (v : ℕ) → rest v ≤ total v) where
+  -- what the j-th place, z, gives up: the lesser of z and x
+  record Given (z p : Float) : Type 0 where
+    lowly : T (low p)
+    under : key x ≤ key z → key p ≡ key x
+    above-it : key z ≤ key x → key p ≡ key z
 
-  cb : key (t .c) ≤ key (t .b)
-  cb = falls total rest 2 (key (t .c)) (key (t .b)) (h .third) (h .second)
+  gives-first : (a : Float) → T (low a) → Given a (lesser a x)
+  gives-first a l = let k = lesser-key a x l (finite-low x f) in record { lowly = either-low (smaller a x) a x l (finite-low x f); under = k .1; above-it = k .0 }
 
-  dc : key (t .d) ≤ key (t .c)
-  dc = falls total rest 3 (key (t .d)) (key (t .c)) (h .fourth) (h .third)
-
-  stay : (j y : ℕ) → key x ≤ y → Seen total rest j y → Seen total rest′ j y
-  stay j y q s = stays total rest rest′ (key x) step j y q s (h .some)
-
-  enter : (j y z : ℕ) → y ≤ key x → key x ≤ z → Seen total rest (suc j) y → Seen total rest j z → Seen total rest′ (suc j) (key x)
-  enter = enters total rest rest′ (key x) step
-
-  move : (j z : ℕ) → z ≤ key x → Seen total rest j z → Seen total rest′ (suc j) z
-  move = moves total rest rest′ (key x) step
-
-  pub top-push : Top4 total rest′ (pushed t x)
-  unfolding pushed
-  top-push = go (smaller (t .d) x) (smaller (t .c) x) (smaller (t .b) x) (smaller (t .a) x) (less (t .d) ld) (more (t .d) ld) (less (t .c) lc) (more (t .c) lc) (less (t .b) lb) (more (t .b) lb) (less (t .a) la) (more (t .a) la)
+  gives-next : (z y p : Float) → T (low y) → key y ≤ key z → Given z p → Given y (lesser y p)
+  gives-next z y p l h g = let k = lesser-key y p l (g .lowly) in record {
+    lowly = either-low (smaller y p) y p l (g .lowly);
+    under = λ q. let e = g .under (omega arith) in k .1 (omega arith) ∙ e;
+    above-it = λ q. k .0 (over q (decLe (key x) (key z)));
+  }
     where
-      la : T (low (t .a))
-      la = h .lows .0
+      over : key y ≤ key x → Dec (key x ≤ key z) → key y ≤ key p
+      over q (yes r) = let e = g .under r in omega arith
+      over q (no r) = let e = g .above-it (omega (arith, r)) in omega arith
 
-      lb : T (low (t .b))
-      lb = h .lows .1
+  -- the (j + 1)-th place, y, keeps the larger of its value and what the j-th, z, gives up
+  keeps : (j : ℕ) (z y p : Float) → T (low y) → key y ≤ key z → Given z p → Seen total rest (suc j) (key y) → Seen total rest j (key z) → Seen total rest′ (suc j) (key (larger y p))
+  keeps j z y p l h g s t = go (decLe (key x) (key y)) (decLe (key x) (key z))
+    where
+      k : (key y ≤ key p → key (larger y p) ≡ key p) × (key p ≤ key y → key (larger y p) ≡ key y)
+      k = larger-key y p l (g .lowly)
 
-      lc : T (low (t .c))
-      lc = h .lows .2
+      go : Dec (key x ≤ key y) → Dec (key x ≤ key z) → Seen total rest′ (suc j) (key (larger y p))
+      go (yes a) b = let e = g .under (omega arith) in let q : key (larger y p) ≡ key y = k .1 (omega arith) in subst (λ (m : ℕ). Seen total rest′ (suc j) m) (sym q) (stays total rest rest′ (key x) step (suc j) (key y) a s some)
+      go (no a) (yes b) = let e = g .under b in let q : key (larger y p) ≡ key x = k .0 (omega (arith, a)) ∙ e in subst (λ (m : ℕ). Seen total rest′ (suc j) m) (sym q) (enters total rest rest′ (key x) step j (key y) (key z) (omega (arith, a)) b s t)
+      go (no a) (no b) = let e = g .above-it (omega (arith, b)) in let q : key (larger y p) ≡ key z = k .0 (omega arith) ∙ e in subst (λ (m : ℕ). Seen total rest′ (suc j) m) (sym q) (moves total rest rest′ (key x) step j (key z) (omega (arith, b)) t)
 
-      ld : T (low (t .d))
-      ld = h .lows .3
+  keeps-first : (a : Float) → T (low a) → Seen total rest 1 (key a) → Seen total rest′ 1 (key (larger a x))
+  keeps-first a l s = go (decLe (key x) (key a))
+    where
+      k : (key a ≤ key x → key (larger a x) ≡ key x) × (key x ≤ key a → key (larger a x) ≡ key a)
+      k = larger-key a x l (finite-low x f)
 
-      lx : T (low x)
-      lx = finite-low x f
+      go : Dec (key x ≤ key a) → Seen total rest′ 1 (key (larger a x))
+      go (yes b) = subst (λ (m : ℕ). Seen total rest′ 1 m) (sym (k .1 b)) (stays total rest rest′ (key x) step 1 (key a) b s some)
+      go (no b) = subst (λ (m : ℕ). Seen total rest′ 1 m) (sym (k .0 (omega (arith, b)))) (leads total rest rest′ (key x) step (key a) (omega (arith, b)) s some)
 
-      go : (d c b a : Bool) → (d ≡ true → key (t .d) < key x) → (d ≡ false → key x ≤ key (t .d)) → (c ≡ true → key (t .c) < key x) → (c ≡ false → key x ≤ key (t .c))
-          → (b ≡ true → key (t .b) < key x) → (b ≡ false → key x ≤ key (t .b)) → (a ≡ true → key (t .a) < key x) → (a ≡ false → key x ≤ key (t .a))
-          → Top4 total rest′ (cond d (cond c (cond b (cond a (four x (t .a) (t .b) (t .c)) (four (t .a) x (t .b) (t .c))) (four (t .a) (t .b) x (t .c))) (four (t .a) (t .b) (t .c) x)) t)
-      go false c b a d⁺ d⁻ c⁺ c⁻ b⁺ b⁻ a⁺ a⁻ =
-          let q : key x ≤ key (t .d) = d⁻ refl in
-          record {
-            lows = h .lows;
-            some = still;
-            first = stay 1 (key (t .a)) (omega (arith, ba, cb, dc)) (h .first);
-            second = stay 2 (key (t .b)) (omega (arith, cb, dc)) (h .second);
-            third = stay 3 (key (t .c)) (omega (arith, dc)) (h .third);
-            fourth = stay 4 (key (t .d)) q (h .fourth);
-          }
-      go true false b a d⁺ d⁻ c⁺ c⁻ b⁺ b⁻ a⁺ a⁻ =
-          let q : key x ≤ key (t .c) = c⁻ refl in
-          let p : key (t .d) < key x = d⁺ refl in
-          record {
-            lows = (la, lb, lc, lx);
-            some = still;
-            first = stay 1 (key (t .a)) (omega (arith, ba, cb)) (h .first);
-            second = stay 2 (key (t .b)) (omega (arith, cb)) (h .second);
-            third = stay 3 (key (t .c)) q (h .third);
-            fourth = enter 3 (key (t .d)) (key (t .c)) (omega arith) q (h .fourth) (h .third);
-          }
-      go true true false a d⁺ d⁻ c⁺ c⁻ b⁺ b⁻ a⁺ a⁻ =
-          let q : key x ≤ key (t .b) = b⁻ refl in
-          let p : key (t .c) < key x = c⁺ refl in
-          record {
-            lows = (la, lb, lx, lc);
-            some = still;
-            first = stay 1 (key (t .a)) (omega (arith, ba)) (h .first);
-            second = stay 2 (key (t .b)) q (h .second);
-            third = enter 2 (key (t .c)) (key (t .b)) (omega arith) q (h .third) (h .second);
-            fourth = move 3 (key (t .c)) (omega arith) (h .third);
-          }
-      go true true true false d⁺ d⁻ c⁺ c⁻ b⁺ b⁻ a⁺ a⁻ =
-          let q : key x ≤ key (t .a) = a⁻ refl in
-          let p : key (t .b) < key x = b⁺ refl in
-          record {
-            lows = (la, lx, lb, lc);
-            some = still;
-            first = stay 1 (key (t .a)) q (h .first);
-            second = enter 1 (key (t .b)) (key (t .a)) (omega arith) q (h .second) (h .first);
-            third = move 2 (key (t .b)) (omega arith) (h .second);
-            fourth = move 3 (key (t .c)) (omega (arith, cb)) (h .third);
-          }
-      go true true true true d⁺ d⁻ c⁺ c⁻ b⁺ b⁻ a⁺ a⁻ =
-          let p : key (t .a) < key x = a⁺ refl in
-          record {
-            lows = (lx, la, lb, lc);
-            some = still;
-            first = leads total rest rest′ (key x) step (key (t .a)) (omega arith) (h .first) (h .some);
-            second = move 1 (key (t .a)) (omega arith) (h .first);
-            third = move 2 (key (t .b)) (omega (arith, ba)) (h .second);
-            fourth = move 3 (key (t .c)) (omega (arith, ba, cb)) (h .third);
-          }
-
--- nothing to come changes
-seen-same : (total rest rest′ : ℕ → ℕ) (j y : ℕ) → ((v : ℕ) → rest v ≡ rest′ v) → Seen total rest j y → Seen total rest′ j y
-seen-same total rest rest′ j y e s v = (λ q. omega (arith, e v, s v .0 q), λ q. s v .1 (omega (arith, e v)))
-
-pub top-skip : (total rest rest′ : ℕ → ℕ) (t : Top) → ((v : ℕ) → rest v ≡ rest′ v) → Top4 total rest t → Top4 total rest′ t
-top-skip total rest rest′ t e h = record {
-  lows = h .lows;
-  some = λ v. omega (arith, e v, h .some v);
-  first = seen-same total rest rest′ 1 (key (t .a)) e (h .first);
-  second = seen-same total rest rest′ 2 (key (t .b)) e (h .second);
-  third = seen-same total rest rest′ 3 (key (t .c)) e (h .third);
-  fourth = seen-same total rest rest′ 4 (key (t .d)) e (h .fourth);
-}
+  top-push : (t : Top) → Top4 total rest t → Top4 total rest′ (pushed t x)
+  unfolding pushed
+  top-push t h =
+      let la = h .lows .0 in
+      let lb = h .lows .1 in
+      let lc = h .lows .2 in
+      let ba = falls total rest 1 (key (t .b)) (key (t .a)) (h .second) (h .first) in
+      let cb = falls total rest 2 (key (t .c)) (key (t .b)) (h .third) (h .second) in
+      let dc = falls total rest 3 (key (t .d)) (key (t .c)) (h .fourth) (h .third) in
+      let p = lesser (t .a) x in
+      let q = lesser (t .b) p in
+      let r = lesser (t .c) q in
+      let gp = gives-first (t .a) la in
+      let gq = gives-next (t .a) (t .b) p lb ba gp in
+      let gr = gives-next (t .b) (t .c) q lc cb gq in
+      record {
+        lows = (
+          either-low (smaller (t .a) x) x (t .a) (finite-low x f) la,
+          either-low (smaller (t .b) p) p (t .b) (gp .lowly) lb,
+          either-low (smaller (t .c) q) q (t .c) (gq .lowly) lc,
+          either-low (smaller (t .d) r) r (t .d) (gr .lowly) (h .lows .3),
+        );
+        some = λ v. omega (arith, step v, some v);
+        first = keeps-first (t .a) la (h .first);
+        second = keeps 1 (t .a) (t .b) p lb ba gp (h .second) (h .first);
+        third = keeps 2 (t .b) (t .c) q lc cb gq (h .third) (h .second);
+        fourth = keeps 3 (t .c) (t .d) r (h .lows .3) dc gr (h .fourth) (h .third);
+      }
 
 pub top-start : (total : ℕ → ℕ) (t : Top) → t ≡ four (inf true) (inf true) (inf true) (inf true) → Top4 total total t
 unfolding key
@@ -224,42 +184,18 @@ top-start total t e = rw e (record { lows = (tt, tt, tt, tt); some = λ v. omega
     none : (j : ℕ) → 0 < j → Seen total total j 0
     none j p v = (λ q. absurd (omega arith), λ q. absurd (omega arith))
 
--- ---- a row
+pub push-is : (t : Top) (x : Float) (p q r a b c d : Float) → p ≡ lesser (t .a) x → q ≡ lesser (t .b) p → r ≡ lesser (t .c) q → a ≡ larger (t .a) x → b ≡ larger (t .b) p → c ≡ larger (t .c) q → d ≡ larger (t .d) r
+    → four a b c d ≡ pushed t x
+unfolding pushed
+push-is t x p q r a b c d e f g h k l m = simp (m, l, k, h, g, f, e)
 
--- the values of K above v from column i on
-abbrev pub toCome : List Float → ℕ → ℕ → ℕ → ℕ
-toCome row i s v = above v (within (columnsOf (length row - i) s) (drop i row))
+-- ---- a list of values
 
-module _ (row : List Float) (i s : ℕ) (h : i < length row) where
-  split : columnsOf (length row - i) s ≡ eqb (s % 2) 1 ∷ columnsOf (length row - (i + 1)) (s / 2)
-  unfolding columnsOf
-  split = let e : length row - i ≡ suc (length row - (i + 1)) = omega arith in ap (λ (n : ℕ). columnsOf n s) e
-
-  come-is : (b : Bool) → eqb (s % 2) 1 ≡ b → (v : ℕ) → toCome row i s v ≡ above v (within (b ∷ columnsOf (length row - (i + 1)) (s / 2)) (getD row i nan ∷ drop (i + 1) row))
-  come-is b e v = ap₂ (λ (K : Columns) (r : List Float). above v (within K r)) (split ∙ ap (λ (c : Bool). c ∷ columnsOf (length row - (i + 1)) (s / 2)) e) (drop-cons row i nan h ∙ ap (λ (n : ℕ). getD row i nan ∷ drop n row) (sym (add-one i)))
-
-  pub come-in : s % 2 ≡ 1 → (v : ℕ) → toCome row i s v ≡ bit (ltb v (key (getD row i nan))) + toCome row (i + 1) (s / 2) v
-  unfolding within count
-  come-in e v = come-is true (eq-eqb (s % 2) 1 e) v
-
-  pub come-past : (s % 2 ≡ 1 → ⊥) → (v : ℕ) → toCome row i s v ≡ toCome row (i + 1) (s / 2) v
-  unfolding within
-  come-past e v = come-is false (ne-eqb (s % 2) 1 e) v
-
-come-none : (row : List Float) (i s : ℕ) → length row ≤ i → (v : ℕ) → toCome row i s v ≡ 0
-unfolding columnsOf within count
-come-none row i s h v = let e : length row - i ≡ 0 = omega arith in rw e
-
-pub come-all : (row : List Float) (s : ℕ) (v : ℕ) → toCome row 0 s v ≡ above v (within (columnsOf (length row) s) row)
-come-all row s v = let e : length row - 0 ≡ length row = omega arith in ap (λ (n : ℕ). above v (within (columnsOf n s) row)) e
-
--- ---- the end
-
-pub low-finite : (x : Float) → T (low x) → 0 < key x → T (finite x)
-unfolding finite key
-low-finite nan l p = absurd l
-low-finite (inf s) l p = absurd (omega arith)
-low-finite (fin s m e) l p = l
+top-all : (total : ℕ → ℕ) (t : Top) (xs : List Float) → Finite xs → Top4 total (λ v. above v xs) t → Top4 total (λ v. 0) (topFrom t xs)
+unfolding topFrom count all
+top-all total t [] fs h = h
+top-all total t (x ∷ xs) fs h =
+    top-all total (pushed t x) xs (and-right (finite x) (all finite xs) fs) (top-push total (λ v. above v (x ∷ xs)) (λ v. above v xs) x (and-left (finite x) (all finite xs) fs) (λ v. refl) (h .some) t h)
 
 -- the k-th of four
 record Nth (total rest : ℕ → ℕ) (k : ℕ) (x : Float) : Type 0 where
@@ -275,43 +211,39 @@ nth-seen total rest t (suc (suc (suc zero))) h p q = record { lowly = h .lows .2
 nth-seen total rest t (suc (suc (suc (suc zero)))) h p q = record { lowly = h .lows .3; seen = h .fourth }
 nth-seen total rest t (suc (suc (suc (suc (suc k))))) h p q = absurd (omega arith)
 
-module _ (row : List Float) (set s i k : ℕ) (t : Top) (fs : Finite row) (pos : 0 < k) (most : k ≤ 4) (held : k ≤ size (columnsOf (length row) set)) (done : length row ≤ i)
-    (h : Top4 (toCome row 0 set) (toCome row i s) t) where
-  xs : List Float
-  xs = within (columnsOf (length row) set) row
+module _ (xs : List Float) (k : ℕ) (fs : Finite xs) (pos : 0 < k) (most : k ≤ 4) (enough : k ≤ length xs) where
+  found : Nth (λ v. above v xs) (λ v. 0) k (nth (topFrom blank xs) k)
+  found = nth-seen (λ v. above v xs) (λ v. 0) (topFrom blank xs) k (top-all (λ v. above v xs) blank xs fs (top-start (λ v. above v xs) blank refl)) pos most
 
-  finite-xs : Finite xs
-  unfolding xs
-  finite-xs = within-all finite (columnsOf (length row) set) row fs
-
-  enough : k ≤ length xs
-  unfolding xs
-  enough = omega (arith, within-length (columnsOf (length row) set) row (sym (columnsOf-length (length row) set)))
-
-  found : Nth (toCome row 0 set) (toCome row i s) k (nth t k)
-  found = nth-seen (toCome row 0 set) (toCome row i s) t k h pos most
-
-  same-key : key (nth t k) ≡ key (kthLargest k xs)
-  unfolding xs
+  same-key : key (nth (topFrom blank xs) k) ≡ key (kthLargest k xs)
   same-key = omega (
     arith,
-    not-below (key (nth t k)) (key (kthLargest k xs)) (λ g. let v = key (nth t k) in let q : v < v = found .seen v .1 (omega (arith, come-none row i s done v, come-all row set v, kthLargest-law k xs finite-xs pos enough v .0 g)) in omega arith),
-    not-below (key (kthLargest k xs)) (key (nth t k)) (λ g. let v = key (kthLargest k xs) in let q : v < v = kthLargest-law k xs finite-xs pos enough v .1 (omega (arith, come-none row i s done v, come-all row set v, found .seen v .0 g)) in omega arith),
+    not-below (key (nth (topFrom blank xs) k)) (key (kthLargest k xs)) (λ g. let v = key (nth (topFrom blank xs) k) in let q : v < v = found .seen v .1 (omega (arith, kthLargest-law k xs fs pos enough v .0 g)) in omega arith),
+    not-below (key (kthLargest k xs)) (key (nth (topFrom blank xs) k)) (λ g. let v = key (kthLargest k xs) in let q : v < v = kthLargest-law k xs fs pos enough v .1 (omega (arith, found .seen v .0 g)) in omega arith),
   )
 
-  pub kMax-found : withPlusZero (nth t k) ≡ kMax k (columnsOf (length row) set) row
-  unfolding kMax xs
-  kMax-found =
-      withPlusZero-same (nth t k) (kthLargest k xs) (low-finite (nth t k) (found .lowly) (omega (arith, same-key, key-some (kthLargest k xs) (rank .finitely)))) (rank .finitely) same-key ∙ rank .plain
+  pub nth-largest : withPlusZero (nth (topFrom blank xs) k) ≡ kthLargest k xs
+  nth-largest =
+      withPlusZero-same (nth (topFrom blank xs) k) (kthLargest k xs) (low-finite (nth (topFrom blank xs) k) (found .lowly) (omega (arith, same-key, key-some (kthLargest k xs) (rank .finitely)))) (rank .finitely) same-key ∙ rank .plain
     where
       rank : Ranks k xs (kthLargest k xs)
-      rank = kthLargest-ranks k xs finite-xs pos enough
+      rank = kthLargest-ranks k xs fs pos enough
 
--- ---- one turn of the loop
+-- ---- the k-th of four by tests of k
 
-module _ (row : List Float) (i s set : ℕ) {t t′ : Top} (h : i < length row) (fs : Finite row) where
-  pub turn-push : s % 2 ≡ 1 → t′ ≡ pushed t (getD row i nan) → Top4 (toCome row 0 set) (toCome row i s) t → Top4 (toCome row 0 set) (toCome row (i + 1) (s / 2)) t′
-  turn-push e p top = rw p (top-push (toCome row 0 set) (toCome row i s) (toCome row (i + 1) (s / 2)) t (getD row i nan) (all-getD finite row i nan h fs) (come-in row i s h e) top)
+module _ (t z : Top) (k : ℕ) (q : t ≡ z) where
+  pub nth-first : k ≡ 1 → t .a ≡ nth z k
+  unfolding nth
+  nth-first e = ap (λ (u : Top). u .a) q ∙ simp (eq-eqb k 1 e)
 
-  pub turn-skip : (s % 2 ≡ 1 → ⊥) → t′ ≡ t → Top4 (toCome row 0 set) (toCome row i s) t → Top4 (toCome row 0 set) (toCome row (i + 1) (s / 2)) t′
-  turn-skip e p top = rw p (top-skip (toCome row 0 set) (toCome row i s) (toCome row (i + 1) (s / 2)) t (come-past row i s h e) top)
+  pub nth-second : (k ≡ 1 → ⊥) → k ≡ 2 → t .b ≡ nth z k
+  unfolding nth
+  nth-second n e = ap (λ (u : Top). u .b) q ∙ simp (ne-eqb k 1 n, eq-eqb k 2 e)
+
+  pub nth-third : (k ≡ 1 → ⊥) → (k ≡ 2 → ⊥) → k ≡ 3 → t .c ≡ nth z k
+  unfolding nth
+  nth-third n m e = ap (λ (u : Top). u .c) q ∙ simp (ne-eqb k 1 n, ne-eqb k 2 m, eq-eqb k 3 e)
+
+  pub nth-fourth : (k ≡ 1 → ⊥) → (k ≡ 2 → ⊥) → (k ≡ 3 → ⊥) → t .d ≡ nth z k
+  unfolding nth
+  nth-fourth n m l = ap (λ (u : Top). u .d) q ∙ simp (ne-eqb k 1 n, ne-eqb k 2 m, ne-eqb k 3 l)

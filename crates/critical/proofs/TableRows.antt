@@ -1,5 +1,5 @@
 -- The rows of a checked table as parts of it, and their k-max values in the work buffer.
---   row-value, row-held, row-turn, rows-end     row g's k-max, in its place
+--   row-ready, row-value, row-turn, rows-end     what row g's k-max asks for; it, in its place; all rows
 --   front-is, back-is, front-rank, quantile-is     all rows' k-max values, and their quantile
 use Prim.Native.Nat.{ℕ, _+_, _-_, _*_, _≤_, _<_}
 use native.Mathlib.Omega.{arith}
@@ -7,7 +7,7 @@ use mathlib.Core.Path.{_≡_, sym, ap, ap₂, _∙_, subst}
 use mathlib.Core.List.{List, [], map}
 use lib.ListN.{length, getD, take, drop, set, length-map}
 use lib.Seq.{take-at, drop-at}
-use lib.Dec.{T}
+use lib.Dec.{T, ltb}
 use lib.Ieee.{Float, nan}
 use Rattle.order.specs.Order.{finite}
 use Rattle.order.specs.Counting.{all}
@@ -16,24 +16,41 @@ use Rattle.order.proofs.Rows.{Finite, rowsOf-sound}
 use Rattle.order.proofs.Lists.{rowsOf-length}
 use Rattle.refusals.specs.Buffers.{written}
 use Rattle.refusals.proofs.Buffers.{filled, filled-turn, filled-end}
-use Rattle.select.specs.Rank.{mthSmallest}
-use Rattle.columns.specs.Columns.{size, columnsOf}
+use Rattle.select.specs.Rank.{kthLargest, mthSmallest}
+use Rattle.columns.specs.Columns.{size, within, columnsOf}
+use Rattle.columns.proofs.Masks.{columnsOf-length}
 use Rattle.method.specs.Method.{kMax, criticalValue}
 use Rattle.method.proofs.Critical.{tops, tops-finite}
 use Rattle.masks.specs.Internal.{CheckedTable}
-use Rattle.masks.proofs.Parts.{part-length, part-row}
+use Rattle.masks.proofs.Parts.{part-length, part-finite, part-row}
+use Rattle.critical.specs.Internal.{membersFrom}
+use Rattle.critical.proofs.Members.{members-within, members-length, members-below}
 
 -- ---- one row of the table
 
-module _ (t : List Float) (rows cols k set g : ℕ) (r : CheckedTable t rows cols k) (h : g < rows) where
-  pub row-value : {v : Float} → v ≡ kMax k (columnsOf (length (take (g * cols + cols - g * cols) (drop (g * cols) t))) set) (take (g * cols + cols - g * cols) (drop (g * cols) t)) → v ≡ kMax k (columnsOf cols set) (getD (rowsOf rows cols t) g [])
-  row-value e = e ∙ ap₂ (λ (n : ℕ) (row : List Float). kMax k (columnsOf n set) row) (part-length t rows cols k g r h) (part-row t rows cols k g r h)
+-- its k-max over the listed columns of a set
+module _ (t : List Float) (rows cols k set : ℕ) (list : List ℕ) (r : CheckedTable t rows cols k) (listed : list ≡ membersFrom 0 (columnsOf cols set)) (g : ℕ) (h : g < rows) where
+  abbrev part : List Float
+  part = take (g * cols + cols - g * cols) (drop (g * cols) t)
 
-  pub row-held : k ≤ size (columnsOf cols set) → k ≤ size (columnsOf (length (take (g * cols + cols - g * cols) (drop (g * cols) t))) set)
-  row-held l = subst (λ (n : ℕ). k ≤ size (columnsOf n set)) (sym (part-length t rows cols k g r h)) l
+  pub row-value : {v : Float} → v ≡ kthLargest k (map (λ j. getD (take (g * cols + cols - g * cols) (drop (g * cols) t)) j nan) list) → v ≡ kMax k (columnsOf cols set) (getD (rowsOf rows cols t) g [])
+  unfolding kMax
+  row-value e =
+      e ∙ ap (λ (l : List ℕ). kthLargest k (map (λ j. getD part j nan) l)) listed
+      ∙ ap (kthLargest k) (members-within part 0 (columnsOf cols set) (omega (arith, columnsOf-length cols set, part-length t rows cols k g r h)) ∙ ap (within (columnsOf cols set)) (part-row t rows cols k g r h))
+
+  pub row-ready : k ≤ size (columnsOf cols set)
+      → T (all finite (take (g * cols + cols - g * cols) (drop (g * cols) t))) × T (all (λ j. ltb j (length (take (g * cols + cols - g * cols) (drop (g * cols) t)))) list) × (0 < k) × (k ≤ 4) × (k ≤ length list)
+  row-ready wide = (
+    part-finite t rows cols k g r h,
+    subst (λ (l : List ℕ). T (all (λ j. ltb j (length part)) l)) (sym listed) (members-below (length part) 0 (columnsOf cols set) (omega (arith, columnsOf-length cols set, part-length t rows cols k g r h))),
+    r .k-some,
+    r .k-most,
+    omega (arith, wide, ap length listed, members-length 0 (columnsOf cols set)),
+  )
 
   pub row-turn : (w w₀ : List Float) {v : Float} → rows ≤ length w₀ → w ≡ filled (λ row. kMax k (columnsOf cols set) row) (rowsOf rows cols t) g w₀
-      → v ≡ kMax k (columnsOf (length (take (g * cols + cols - g * cols) (drop (g * cols) t))) set) (take (g * cols + cols - g * cols) (drop (g * cols) t))
+      → v ≡ kthLargest k (map (λ j. getD (take (g * cols + cols - g * cols) (drop (g * cols) t)) j nan) list)
       → lib.ListN.set w g v ≡ filled (λ row. kMax k (columnsOf cols set) row) (rowsOf rows cols t) (g + 1) w₀
   row-turn w w₀ {v} l p e =
       filled-turn (λ row. kMax k (columnsOf cols set) row) (rowsOf rows cols t) w₀ [] g w v nan (omega (arith, rowsOf-length rows cols t)) (omega arith) p (row-value e)

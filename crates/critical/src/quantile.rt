@@ -10,17 +10,26 @@ ghost use Rattle.refusals.specs.Buffers.{written};
 ghost use Rattle.columns.specs.Columns.{size, columnsOf};
 ghost use Rattle.method.specs.Method.{kMax, criticalValue};
 ghost use Rattle.masks.specs.Internal.{CheckedTable};
+ghost use Rattle.critical.specs.Internal.{membersFrom};
 
-// The k-max of each row over the columns of `set`, into the first places of the work buffer.
-fn fill(table: &[f64], work: &mut [f64], rows: usize, cols: usize, k: usize, set: u32)
-    requires { ⌜ CheckedTable (now table) rows cols k × (rows ≤ length (now work)) × (k ≤ size (columnsOf cols set)) ⌝ }
-    ensures { λ _. ⌜ now (work .exit) ≡ written (map (λ row. kMax k (columnsOf cols set) row) (rowsOf rows cols (now (table .entry)))) (now (work .entry)) ⌝ }
+// The k-max of each row over the columns of `set`, which are listed, into the first places of the work buffer.
+fn fill(
+    table: &[f64],
+    work: &mut [f64],
+    rows: usize,
+    columns: usize,
+    k: usize,
+    set: u32,
+    list: &[usize],
+)
+    requires { ⌜ CheckedTable (now table) rows columns k × (rows ≤ length (now work)) × (k ≤ size (columnsOf columns set)) × (now list ≡ membersFrom 0 (columnsOf columns set)) ⌝ }
+    ensures { λ _. ⌜ now (work .exit) ≡ written (map (λ row. kMax k (columnsOf columns set) row) (rowsOf rows columns (now (table .entry)))) (now (work .entry)) ⌝ }
 {
     let mut g: usize = 0;
     while g < rows {
-        let a = g * cols;
-        let e = a + cols;
-        work[g] = kmax::kmax(&table[a..e], set, k);
+        let a = g * columns;
+        let e = a + columns;
+        work[g] = kmax::kmax(&table[a..e], list, k);
         g += 1;
     }
 }
@@ -30,6 +39,9 @@ pub fn critical_value(table: &[f64], work: &mut [f64], f: Figures, set: u32) -> 
     requires { ⌜ CheckedTable (now table) (f .rows) (f .columns) (f .k) × (f .rows ≤ length (now work)) × (f .k ≤ size (columnsOf (f .columns) set)) × (f .e < f .rows) ⌝ }
     ensures { λ r. ⌜ (r ≡ criticalValue (f .k) (f .e) (rowsOf (f .rows) (f .columns) (now (table .entry))) (columnsOf (f .columns) set)) × (drop (f .rows) (now (work .exit)) ≡ drop (f .rows) (now (work .entry))) ⌝ }
 {
-    fill(table, work, f.rows, f.columns, f.k, set);
+    let m = kmax::members(f.columns, set);
+    let n = m.count;
+    let columns = m.columns;
+    fill(table, work, f.rows, f.columns, f.k, set, &columns[..n]);
     select::mth_smallest(&work[..f.rows], f.rows - f.e)
 }

@@ -1,5 +1,5 @@
 -- The full run that a trace makes, column by column.
---   partialRun        with the verdicts and counts of the first j columns
+--   partialRun        with all counts and the verdicts of the first j columns
 --   trace-verdict     a verdict read off the trace of steps is the verdict of those steps
 --   counted-can       the first state can be stepped where k or more columns are live
 --   full-is           what the steps make is the full run
@@ -38,33 +38,27 @@ module _ (t : Trace) (table : List Float) (rows columns e observed : ℕ) where
   verdicts : ℕ → List Decision
   verdicts j = map decision (tabulate j (λ i. verdictIn t i))
 
-  counts : ℕ → List ℕ
-  counts j = tabulate j (λ i. atLeast (rowsOf rows columns table) (getD table (observed * columns + i) nan) i)
-
   pub partialRun : ℕ → FullRun
-  partialRun j = record { refusal = 0; rows = rows; e = e; steps = t .steps; records = t .records; decisions = padded 32 (decision (Kept plusZero)) (verdicts j); counts = padded 32 0 (counts j) }
+  partialRun j = record { refusal = 0; rows = rows; e = e; steps = t .steps; records = t .records; decisions = padded 32 (decision (Kept plusZero)) (verdicts j); counts = padded 32 0 (tabulate columns (λ i. atLeast (rowsOf rows columns table) (getD table (observed * columns + i) nan) i)) }
 
-  pub partial-start : (r : FullRun) → r ≡ refusedRun 0 → record { refusal = r .refusal; rows = rows; e = e; steps = t .steps; records = t .records; decisions = r .decisions; counts = r .counts } ≡ partialRun 0
-  unfolding partialRun verdicts counts tabulate
-  partial-start r q = ap (λ (x : FullRun). record { refusal = x .refusal; rows = rows; e = e; steps = t .steps; records = t .records; decisions = x .decisions; counts = x .counts }) q
+  pub partial-start : (r : FullRun) (cs : List ℕ) → r ≡ refusedRun 0 → cs ≡ padded 32 0 (tabulate columns (λ i. atLeast (rowsOf rows columns table) (getD table (observed * columns + i) nan) i))
+      → record { refusal = r .refusal; rows = rows; e = e; steps = t .steps; records = t .records; decisions = r .decisions; counts = cs } ≡ partialRun 0
+  unfolding partialRun verdicts tabulate
+  partial-start r cs q p = ap₂ (λ (x : FullRun) (y : List ℕ). record { refusal = x .refusal; rows = rows; e = e; steps = t .steps; records = t .records; decisions = x .decisions; counts = y }) q p
 
-  pub partial-turn : (j : ℕ) (f : FullRun) (v : Verdict) (n : ℕ) → j < 32 → f ≡ partialRun j → v ≡ verdictIn t j → n ≡ atLeast (rowsOf rows columns table) (getD table (observed * columns + j) nan) j
-      → record { refusal = f .refusal; rows = f .rows; e = f .e; steps = f .steps; records = f .records; decisions = set (f .decisions) j (record { verdict = v }); counts = set (f .counts) j n } ≡ partialRun (j + 1)
-  unfolding partialRun verdicts counts
-  partial-turn j f v n h w p q =
-      ap (λ (x : FullRun). record { refusal = x .refusal; rows = x .rows; e = x .e; steps = x .steps; records = x .records; decisions = set (x .decisions) j (record { verdict = v }); counts = set (x .counts) j n }) w
-      ∙ (λ i. record { refusal = 0; rows = rows; e = e; steps = t .steps; records = t .records; decisions = js i; counts = cs i })
+  pub partial-turn : (j : ℕ) (f : FullRun) (v : Verdict) → j < 32 → f ≡ partialRun j → v ≡ verdictIn t j
+      → record { refusal = f .refusal; rows = f .rows; e = f .e; steps = f .steps; records = f .records; decisions = set (f .decisions) j (record { verdict = v }); counts = f .counts } ≡ partialRun (j + 1)
+  unfolding partialRun verdicts
+  partial-turn j f v h w p =
+      ap (λ (x : FullRun). record { refusal = x .refusal; rows = x .rows; e = x .e; steps = x .steps; records = x .records; decisions = set (x .decisions) j (record { verdict = v }); counts = x .counts }) w
+      ∙ ap (λ (ds : List Decision). record { refusal = 0; rows = rows; e = e; steps = t .steps; records = t .records; decisions = ds; counts = padded 32 0 (tabulate columns (λ i. atLeast (rowsOf rows columns table) (getD table (observed * columns + i) nan) i)) }) js
     where
       js : set (padded 32 (decision (Kept plusZero)) (map decision (tabulate j (λ i. verdictIn t i)))) j (decision v) ≡ padded 32 (decision (Kept plusZero)) (map decision (tabulate (j + 1) (λ i. verdictIn t i)))
       js = set-padded 32 (decision (Kept plusZero)) (map decision (tabulate j (λ i. verdictIn t i))) j (decision v) (length-map (tabulate j (λ i. verdictIn t i)) decision ∙ tabulate-length j (λ i. verdictIn t i)) h
           ∙ ap (padded 32 (decision (Kept plusZero))) (ap (λ (w : Verdict). map decision (tabulate j (λ i. verdictIn t i)) ++ (decision w ∷ [])) p ∙ sym (map-more decision (tabulate j (λ i. verdictIn t i)) (verdictIn t j)) ∙ ap (map decision) (sym (tabulate-more j (λ i. verdictIn t i))))
 
-      cs : set (padded 32 0 (tabulate j (λ i. atLeast (rowsOf rows columns table) (getD table (observed * columns + i) nan) i))) j n ≡ padded 32 0 (tabulate (j + 1) (λ i. atLeast (rowsOf rows columns table) (getD table (observed * columns + i) nan) i))
-      cs = set-padded 32 0 (tabulate j (λ i. atLeast (rowsOf rows columns table) (getD table (observed * columns + i) nan) i)) j n (tabulate-length j (λ i. atLeast (rowsOf rows columns table) (getD table (observed * columns + i) nan) i)) h
-          ∙ ap (padded 32 0) (ap (λ (m : ℕ). tabulate j (λ i. atLeast (rowsOf rows columns table) (getD table (observed * columns + i) nan) i) ++ (m ∷ [])) q ∙ sym (tabulate-more j (λ i. atLeast (rowsOf rows columns table) (getD table (observed * columns + i) nan) i)))
-
   pub partial-end : (j : ℕ) (f : FullRun) → j ≤ columns → columns ≤ j → f ≡ partialRun j → f ≡ finishedRun t table rows columns e observed
-  unfolding partialRun verdicts counts finishedRun
+  unfolding partialRun verdicts finishedRun
   partial-end j f a b w = let q : j ≡ columns = omega arith in w ∙ ap partialRun q
 
 -- ---- the trace of steps

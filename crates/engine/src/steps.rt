@@ -37,7 +37,7 @@ fn critical_of(s: State, table: &[f64], work: &mut [f64]) -> f64
     if s.steps == 0 {
         return critical::critical_value(table, work, f, s.live);
     }
-    critical::put_back(table, work, f, s.live - s.rejected, s.rejected)
+    putback::put_back(table, work, f, s.live - s.rejected, s.rejected)
 }
 
 // Whether a step that rejected the columns of `new` ends the run: nothing new, fewer than k in all, or none left.

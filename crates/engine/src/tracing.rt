@@ -104,12 +104,12 @@ fn finish(
     f.steps = t.steps;
     let records = t.records;
     f.records = records;
+    let counts = critical::at_least(table, rows, columns, k, observed);
+    f.counts = counts;
     let mut j: usize = 0;
     while j < columns {
-        let at = observed * columns + j;
         let v = verdict(t, j);
         f.decisions[j] = Decision { verdict: v };
-        f.counts[j] = critical::at_least(table, rows, columns, k, j, table[at]);
         j += 1;
     }
     f

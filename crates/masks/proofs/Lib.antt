@@ -3,4 +3,5 @@ pub mod Parts
 pub mod Walks
 pub mod SetSizes
 pub mod Marks
+pub mod Those
 pub mod Marking

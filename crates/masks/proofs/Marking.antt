@@ -1,25 +1,30 @@
 -- The marks of a table's rows, as the code makes them.
 --   mark-start, mark-in, mark-past, mark-done    one row, from its last column on; mark-room: with room for one column more
---   marked-start, marked-in, marked-past, marked-done     row after row of a table
-use Prim.Native.Nat.{ℕ, suc, _+_, _-_, _*_, _^_, _≤_, _<_}
+--   Remarked, remarked-start, remarked-in, remarked-past, remarked-end     the rows whose numbers stand in a list, one after the other; kept-fits, row-inside: the next one
+--   rows-all, marks-all  all rows, and the marks of those that stay; numbers-inside: the numbers of all rows
+--   numbered-more, repeated-more     these numbers, and one mark for each, one row more
+use Prim.Native.Nat.{ℕ, zero, suc, _+_, _-_, _*_, _^_, _≤_, _<_}
 use native.Mathlib.Omega.{arith}
 use native.Mathlib.Numerals.{add-one}
-use mathlib.Core.Path.{_≡_, refl, sym, ap, ap₂, _∙_}
+use mathlib.Core.Path.{_≡_, refl, sym, ap, ap₂, _∙_, subst}
 use mathlib.Core.Bool.{Bool, true, false, cond}
 use mathlib.Core.List.{List, [], _∷_, _++_, map}
-use lib.ListN.{length, getD, take, drop, set, length-map, length-drop, drop-of-length-le}
-use lib.Seq.{take-suc, take-suc-set, take-all, drop-cons}
-use lib.Dec.{leb}
+use lib.ListN.{length, getD, take, drop, set, replicate, length-map, length-drop, length-set, drop-of-length-le}
+use lib.Seq.{take-suc, take-suc-set, take-set-le, length-take-le, drop-cons, drop-drop, drop-set-lt, getD-drop, getD-take, ext-getD}
+use lib.Dec.{T, leb, ltb, ltb→lt, lt→ltb}
 use lib.Pow.{pow-mono}
 use lib.Ieee.{Float, nan}
-use Rattle.order.specs.Counting.{bit}
-use Rattle.order.specs.Lists.{rowsOf}
-use Rattle.order.proofs.Lists.{map-more, rowsOf-length}
+use Rattle.order.specs.Counting.{bit, all}
+use Rattle.order.specs.Lists.{rowsOf, tabulate}
+use Rattle.order.proofs.Booleans.{and-both}
+use Rattle.order.proofs.Counts.{all-getD}
+use Rattle.order.proofs.Lists.{map-more, getD-map, tabulate-length, tabulate-getD, tabulate-more, rowsOf-length}
 use Rattle.columns.specs.Columns.{size, columnsOf, maskOf}
 use Rattle.columns.proofs.Masks.{maskOf-lt}
 use Rattle.masks.specs.Internal.{CheckedTable}
-use Rattle.masks.specs.Marks.{markOf, those, marksOf}
+use Rattle.masks.specs.Marks.{markOf, those, marksOf, rowsKept, marksAt}
 use Rattle.masks.proofs.Parts.{part-row}
+use Rattle.masks.proofs.Those.{those-more, those-map}
 
 -- ---- one row
 
@@ -51,55 +56,143 @@ module _ (p : Float → Bool) (row : List Float) where
       let r : 2 ^ length (map p (drop i row)) ≤ 2 ^ 31 = pow-mono n in
       omega (arith, q, r, maskOf-lt (map p (drop i row)))
 
--- ---- row after row
-
-those-more : {A : Type 0} (p : A → Bool) (s : List A) (x : A) → those p (s ++ (x ∷ [])) ≡ those p s ++ cond (p x) (x ∷ []) []
-unfolding those
-those-more p [] x = refl
-those-more p (y ∷ s) x = go (p y) (those-more p s x)
-  where
-    go : (b : Bool) → those p (s ++ (x ∷ [])) ≡ those p s ++ cond (p x) (x ∷ []) []
-        → cond b (y ∷ those p (s ++ (x ∷ []))) (those p (s ++ (x ∷ []))) ≡ cond b (y ∷ those p s) (those p s) ++ cond (p x) (x ∷ []) []
-    go true e = ap (λ l. y ∷ l) e
-    go false e = e
+-- ---- the rows whose numbers stand in a list
 
 append-none : {A : Type 0} (l : List A) → l ++ [] ≡ l
 append-none [] = refl
 append-none (x ∷ l) = ap (λ s. x ∷ s) (append-none l)
 
-module _ (k : ℕ) (p : Float → Bool) (X : List (List Float)) where
-  -- one row more
-  marks-more : (g m : ℕ) (b : Bool) → g < length X → m ≡ markOf p (getD X g []) → leb k (size (columnsOf 32 m)) ≡ b → marksOf k p (take (g + 1) X) ≡ marksOf k p (take g X) ++ cond b (m ∷ []) []
-  unfolding marksOf
-  marks-more g m b h q f =
-      ap (marksOf k p) (ap (λ (i : ℕ). take i X) (add-one g) ∙ take-suc X g [] h)
-      ∙ ap (those (λ m. leb k (size (columnsOf 32 m)))) (map-more (λ row. markOf p row) (take g X) (getD X g []))
-      ∙ those-more (λ m. leb k (size (columnsOf 32 m))) (map (λ row. markOf p row) (take g X)) (markOf p (getD X g []))
-      ∙ ap (λ (x : ℕ). marksOf k p (take g X) ++ cond (leb k (size (columnsOf 32 x))) (x ∷ []) []) (sym q)
-      ∙ ap (λ (c : Bool). marksOf k p (take g X) ++ cond c (m ∷ []) []) f
+-- the first m places hold those of the first i numbers that stay, and the places from i on are as they were
+pub record Remarked (t : List Float) (rows cols k n : ℕ) (p : Float → Bool) (kept₀ marks₀ kept marks : List ℕ) (m i : ℕ) : Type 0 where
+  pub ready : CheckedTable t rows cols k
+  pub room : (n ≤ length kept₀) × (n ≤ length marks₀)
+  pub inside : T (all (λ g. ltb g rows) (take n kept₀))
+  pub place : i ≤ n
+  pub few : m ≤ i
+  pub as-long : (length kept ≡ length kept₀) × (length marks ≡ length marks₀)
+  pub ahead : drop i kept ≡ drop i kept₀
+  pub stay : take m kept ≡ rowsKept k p (rowsOf rows cols t) (take i kept₀)
+  pub marked : take m marks ≡ marksAt p (rowsOf rows cols t) (take m kept)
 
-  pub marked-start : (ms : List ℕ) → take 0 ms ≡ marksOf k p (take 0 X)
-  unfolding marksOf those
-  marked-start ms = refl
+pub remarked-start : (t : List Float) (rows cols k n : ℕ) (p : Float → Bool) (kept marks : List ℕ) → CheckedTable t rows cols k → n ≤ length kept → n ≤ length marks → T (all (λ g. ltb g rows) (take n kept)) → Remarked t rows cols k n p kept marks kept marks 0 0
+unfolding rowsKept those
+remarked-start t rows cols k n p kept marks r a b s = record { ready = r; room = (a, b); inside = s; place = omega arith; few = omega arith; as-long = (refl, refl); ahead = refl; stay = refl; marked = refl }
 
--- the same of row g of a table, as a part of it
-module _ (t : List Float) (rows cols k g : ℕ) (r : CheckedTable t rows cols k) (h : g < rows) (p : Float → Bool) where
-  row-mark : {m : ℕ} → m ≡ markOf p (take (g * cols + cols - g * cols) (drop (g * cols) t)) → m ≡ markOf p (getD (rowsOf rows cols t) g [])
-  row-mark q = q ∙ ap (markOf p) (part-row t rows cols k g r h)
+module _ {t : List Float} {rows cols k n : ℕ} {p : Float → Bool} {kept₀ marks₀ kept marks : List ℕ} {m i : ℕ} (w : Remarked t rows cols k n p kept₀ marks₀ kept marks m i) (h : i < n) where
+  pub kept-fits : i < length kept
+  kept-fits = omega (arith, w .room .0, w .as-long .0)
 
-  turn : (m : ℕ) (b : Bool) → m ≡ markOf p (take (g * cols + cols - g * cols) (drop (g * cols) t)) → leb k (size (columnsOf 32 m)) ≡ b
-      → marksOf k p (take (g + 1) (rowsOf rows cols t)) ≡ marksOf k p (take g (rowsOf rows cols t)) ++ cond b (m ∷ []) []
-  turn m b q f = marks-more k p (rowsOf rows cols t) g m b (omega (arith, rowsOf-length rows cols t)) (row-mark q) f
+  own : getD kept i 0 ≡ getD kept₀ i 0
+  own = let z : i + 0 ≡ i = omega arith in
+      ap (λ (j : ℕ). getD kept j 0) (sym z) ∙ sym (getD-drop i kept 0 0) ∙ ap (λ (l : List ℕ). getD l 0 0) (w .ahead) ∙ getD-drop i kept₀ 0 0 ∙ ap (λ (j : ℕ). getD kept₀ j 0) z
 
-  pub marked-in : (n m i : ℕ) (ms us : List ℕ) → n < length ms → m ≡ markOf p (take (g * cols + cols - g * cols) (drop (g * cols) t)) → leb k (size (columnsOf 32 m)) ≡ true → us ≡ set ms n m → i ≡ n + 1
-      → take n ms ≡ marksOf k p (take g (rowsOf rows cols t)) → take i us ≡ marksOf k p (take (g + 1) (rowsOf rows cols t))
-  marked-in n m i ms us l q f u e w =
-      ap₂ (λ (j : ℕ) (s : List ℕ). take j s) (e ∙ add-one n) u ∙ take-suc-set ms n m l ∙ ap (λ (s : List ℕ). s ++ (m ∷ [])) w ∙ sym (turn m true q f)
+  pub row-inside : getD kept i 0 < rows
+  row-inside = subst (λ (g : ℕ). g < rows) (sym (own ∙ sym (getD-take n kept₀ i 0 h)))
+      (ltb→lt (getD (take n kept₀) i 0) rows (all-getD (λ g. ltb g rows) (take n kept₀) i 0 (omega (arith, length-take-le n kept₀ (w .room .0))) (w .inside)))
 
-  pub marked-past : (n m i : ℕ) (ms us : List ℕ) → m ≡ markOf p (take (g * cols + cols - g * cols) (drop (g * cols) t)) → leb k (size (columnsOf 32 m)) ≡ false → us ≡ ms → i ≡ n
-      → take n ms ≡ marksOf k p (take g (rowsOf rows cols t)) → take i us ≡ marksOf k p (take (g + 1) (rowsOf rows cols t))
-  marked-past n m i ms us q f u e w =
-      ap₂ (λ (j : ℕ) (s : List ℕ). take j s) e u ∙ w ∙ sym (turn m false q f ∙ append-none (marksOf k p (take g (rowsOf rows cols t))))
+  abbrev g : ℕ
+  g = getD kept i 0
 
-pub marked-done : (t : List Float) (rows cols k g : ℕ) (p : Float → Bool) (l : List ℕ) → rows ≤ g → l ≡ marksOf k p (take g (rowsOf rows cols t)) → l ≡ marksOf k p (rowsOf rows cols t)
-marked-done t rows cols k g p l h w = w ∙ ap (marksOf k p) (take-all g (rowsOf rows cols t) (omega (arith, rowsOf-length rows cols t)))
+  module _ (x : ℕ) (made : x ≡ markOf p (take (getD kept i 0 * cols + cols - getD kept i 0 * cols) (drop (getD kept i 0 * cols) t))) where
+    row-mark : x ≡ markOf p (getD (rowsOf rows cols t) (getD kept i 0) [])
+    row-mark = made ∙ ap (markOf p) (part-row t rows cols k (getD kept i 0) (w .ready) row-inside)
+
+    -- one number more
+    kept-more : (b : Bool) → leb k (size (columnsOf 32 x)) ≡ b → rowsKept k p (rowsOf rows cols t) (take (i + 1) kept₀) ≡ take m kept ++ cond b (getD kept i 0 ∷ []) []
+    unfolding rowsKept
+    kept-more b e =
+        ap (rowsKept k p (rowsOf rows cols t)) (ap (λ (j : ℕ). take j kept₀) (add-one i) ∙ take-suc kept₀ i 0 (omega (arith, w .room .0)) ∙ ap (λ (y : ℕ). take i kept₀ ++ (y ∷ [])) (sym own))
+        ∙ those-more (λ y. leb k (size (columnsOf 32 (markOf p (getD (rowsOf rows cols t) y []))))) (take i kept₀) (getD kept i 0)
+        ∙ ap₂ (λ (l : List ℕ) (c : Bool). l ++ cond c (getD kept i 0 ∷ []) []) (sym (w .stay)) (ap (λ (y : ℕ). leb k (size (columnsOf 32 y))) (sym row-mark) ∙ e)
+
+    ahead′ : drop (i + 1) (set kept m (getD kept i 0)) ≡ drop (i + 1) kept₀
+    ahead′ = drop-set-lt (i + 1) kept m (getD kept i 0) (omega (arith, w .few)) ∙ sym (drop-drop 1 i kept) ∙ ap (drop 1) (w .ahead) ∙ drop-drop 1 i kept₀
+
+    lengths : (length (set kept m (getD kept i 0)) ≡ length kept₀) × (length (set marks m x) ≡ length marks₀)
+    lengths = (length-set kept m (getD kept i 0) ∙ w .as-long .0, length-set marks m x ∙ w .as-long .1)
+
+    pub remarked-in : (m′ : ℕ) → leb k (size (columnsOf 32 x)) ≡ true → m′ ≡ m + 1 → Remarked t rows cols k n p kept₀ marks₀ (set kept m (getD kept i 0)) (set marks m x) m′ (i + 1)
+    remarked-in m′ e f = record {
+      ready = w .ready;
+      room = w .room;
+      inside = w .inside;
+      place = omega arith;
+      few = omega (arith, w .few);
+      as-long = lengths;
+      ahead = ahead′;
+      stay = longer ∙ sym (kept-more true e);
+      marked = ap (λ (j : ℕ). take j (set marks m x)) (f ∙ add-one m) ∙ take-suc-set marks m x (omega (arith, w .few, w .room .1, w .as-long .1)) ∙ ap₂ (λ (l : List ℕ) (y : ℕ). l ++ (y ∷ [])) (w .marked) row-mark
+          ∙ sym (map-more (λ y. markOf p (getD (rowsOf rows cols t) y [])) (take m kept) (getD kept i 0)) ∙ ap (marksAt p (rowsOf rows cols t)) (sym longer);
+    }
+      where
+        longer : take m′ (set kept m (getD kept i 0)) ≡ take m kept ++ (getD kept i 0 ∷ [])
+        longer = ap (λ (j : ℕ). take j (set kept m (getD kept i 0))) (f ∙ add-one m) ∙ take-suc-set kept m (getD kept i 0) (omega (arith, w .few, kept-fits))
+
+    pub remarked-past : (m′ : ℕ) → leb k (size (columnsOf 32 x)) ≡ false → m′ ≡ m → Remarked t rows cols k n p kept₀ marks₀ (set kept m (getD kept i 0)) (set marks m x) m′ (i + 1)
+    remarked-past m′ e f = record {
+      ready = w .ready;
+      room = w .room;
+      inside = w .inside;
+      place = omega arith;
+      few = omega (arith, w .few);
+      as-long = lengths;
+      ahead = ahead′;
+      stay = same ∙ sym (kept-more false e ∙ append-none (take m kept));
+      marked = ap (λ (j : ℕ). take j (set marks m x)) f ∙ take-set-le m marks m x (omega arith) ∙ w .marked ∙ ap (marksAt p (rowsOf rows cols t)) (sym same);
+    }
+      where
+        same : take m′ (set kept m (getD kept i 0)) ≡ take m kept
+        same = ap (λ (j : ℕ). take j (set kept m (getD kept i 0))) f ∙ take-set-le m kept m (getD kept i 0) (omega arith)
+
+pub remarked-end : {t : List Float} {rows cols k n : ℕ} {p : Float → Bool} {kept₀ marks₀ kept marks : List ℕ} {m i : ℕ} → Remarked t rows cols k n p kept₀ marks₀ kept marks m i → n ≤ i
+    → (m ≤ n) × (take m kept ≡ rowsKept k p (rowsOf rows cols t) (take n kept₀)) × (take m marks ≡ marksAt p (rowsOf rows cols t) (take m kept))
+remarked-end {t} {rows} {cols} {k} {n} {p} {kept₀} {i = i} w h = let z : i ≡ n = omega (arith, w .place) in (omega (arith, w .few, w .place), w .stay ∙ ap (λ (j : ℕ). rowsKept k p (rowsOf rows cols t) (take j kept₀)) z, w .marked)
+
+-- ---- all rows
+
+pub rows-all : (X : List (List Float)) → map (λ g. getD X g []) (tabulate (length X) (λ g. g)) ≡ X
+rows-all X = ext-getD [] (map (λ g. getD X g []) (tabulate (length X) (λ g. g))) X long
+    (λ i h. getD-map (λ g. getD X g []) (tabulate (length X) (λ g. g)) i 0 [] (omega (arith, tabulate-length (length X) (λ g. g), long)) ∙ ap (λ (g : ℕ). getD X g []) (tabulate-getD (length X) (λ g. g) i 0 (omega (arith, long))))
+  where
+    long : length (map (λ g. getD X g []) (tabulate (length X) (λ g. g))) ≡ length X
+    long = length-map (tabulate (length X) (λ g. g)) (λ g. getD X g []) ∙ tabulate-length (length X) (λ g. g)
+
+pub marks-all : (k : ℕ) (p : Float → Bool) (X : List (List Float)) → marksAt p X (rowsKept k p X (tabulate (length X) (λ g. g))) ≡ marksOf k p X
+unfolding rowsKept marksOf
+marks-all k p X =
+    sym (those-map (λ g. markOf p (getD X g [])) (λ m. leb k (size (columnsOf 32 m))) (tabulate (length X) (λ g. g)))
+    ∙ ap (those (λ m. leb k (size (columnsOf 32 m)))) (sym (map-map (λ row. markOf p row) (λ g. getD X g []) (tabulate (length X) (λ g. g))) ∙ ap (map (λ row. markOf p row)) (rows-all X))
+  where
+    map-map : {A B C : Type 0} (f : B → C) (e : A → B) (l : List A) → map f (map e l) ≡ map (λ x. f (e x)) l
+    map-map f e [] = refl
+    map-map f e (x ∷ l) = ap (λ m. f (e x) ∷ m) (map-map f e l)
+
+below : (n m : ℕ) (f : ℕ → ℕ) → ((i : ℕ) → i < n → T (ltb (f i) m)) → T (all (λ g. ltb g m) (tabulate n f))
+unfolding tabulate all
+below zero m f h = tt
+below (suc n) m f h = and-both (ltb (f 0) m) (all (λ g. ltb g m) (tabulate n (λ i. f (suc i)))) (h 0 (omega arith)) (below n m (λ i. f (suc i)) (λ i l. h (suc i) (omega arith)))
+
+pub numbers-inside : (n : ℕ) → T (all (λ g. ltb g n) (tabulate n (λ g. g)))
+numbers-inside n = below n n (λ g. g) (λ i h. lt→ltb i n h)
+
+pub all-inside : (rows : ℕ) (kept : List ℕ) → take rows kept ≡ tabulate rows (λ g. g) → T (all (λ g. ltb g rows) (take rows kept))
+all-inside rows kept q = subst (λ (l : List ℕ). T (all (λ g. ltb g rows) l)) (sym q) (numbers-inside rows)
+
+pub all-marked : (t : List Float) (rows cols k : ℕ) (p : Float → Bool) (r : ℕ) (kept kept′ marks′ : List ℕ) → take rows kept ≡ tabulate rows (λ g. g)
+    → take r kept′ ≡ rowsKept k p (rowsOf rows cols t) (take rows kept) → take r marks′ ≡ marksAt p (rowsOf rows cols t) (take r kept′) → take r marks′ ≡ marksOf k p (rowsOf rows cols t)
+all-marked t rows cols k p r kept kept′ marks′ q s m =
+    m ∙ ap (marksAt p (rowsOf rows cols t)) (s ∙ ap (rowsKept k p (rowsOf rows cols t)) (q ∙ ap (λ (n : ℕ). tabulate n (λ g. g)) (sym (rowsOf-length rows cols t)))) ∙ marks-all k p (rowsOf rows cols t)
+
+-- the numbers of all rows, one after the other
+pub numbered-more : (g : ℕ) (kept us : List ℕ) → g < length kept → us ≡ set kept g g → take g kept ≡ tabulate g (λ i. i) → take (g + 1) us ≡ tabulate (g + 1) (λ i. i)
+numbered-more g kept us h e w = ap₂ (λ (j : ℕ) (l : List ℕ). take j l) (add-one g) e ∙ take-suc-set kept g g h ∙ ap (λ (l : List ℕ). l ++ (g ∷ [])) w ∙ sym (tabulate-more g (λ i. i))
+
+pub repeated-more : (g x : ℕ) (marks us : List ℕ) → g < length marks → us ≡ set marks g x → take g marks ≡ replicate g x → take (g + 1) us ≡ replicate (g + 1) x
+repeated-more g x marks us h e w = ap₂ (λ (j : ℕ) (l : List ℕ). take j l) (add-one g) e ∙ take-suc-set marks g x h ∙ ap (λ (l : List ℕ). l ++ (x ∷ [])) w ∙ snoc g ∙ ap (λ (j : ℕ). replicate j x) (sym (add-one g))
+  where
+    snoc : (n : ℕ) → replicate n x ++ (x ∷ []) ≡ replicate (suc n) x
+    snoc zero = refl
+    snoc (suc n) = ap (λ (l : List ℕ). x ∷ l) (snoc n)
+
+pub numbered-all : (g rows x : ℕ) (kept marks : List ℕ) → g ≤ rows → rows ≤ g → take g kept ≡ tabulate g (λ i. i) → take g marks ≡ replicate g x → (take rows kept ≡ tabulate rows (λ i. i)) × (take rows marks ≡ replicate rows x)
+numbered-all g rows x kept marks h l p q = let z : g ≡ rows = omega arith in subst (λ (n : ℕ). (take n kept ≡ tabulate n (λ i. i)) × (take n marks ≡ replicate n x)) z (p, q)

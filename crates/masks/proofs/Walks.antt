@@ -1,5 +1,6 @@
 -- A walk over choices among columns, for any function f of a set: column by column, each chosen first and then passed over.
 --   joinAt K j I           K with the columns I, which start at column j; join-none: with none of them
+--   split                  the next of the columns that are still to be looked at, and the others
 --   size-set, put-lt, put-columns      a column put into a set, and into its mask
 --   valuesFrom f cols s rest from left     f of the set s with each choice of `left` columns among those of `rest`, which start at column `from`
 --   values-leaf, values-none           nothing left to choose, or to choose from
@@ -107,7 +108,7 @@ unfolding choose columnsOf
 choose-zero j zero = refl
 choose-zero j (suc m) = ap (map (λ I. false ∷ I)) (choose-zero j m)
 
-split : (cols rest from : ℕ) → from < cols → columnsOf (cols - from) rest ≡ eqb (rest % 2) 1 ∷ columnsOf (cols - (from + 1)) (rest / 2)
+pub split : (cols rest from : ℕ) → from < cols → columnsOf (cols - from) rest ≡ eqb (rest % 2) 1 ∷ columnsOf (cols - (from + 1)) (rest / 2)
 unfolding columnsOf
 split cols rest from h = let e : cols - from ≡ suc (cols - (from + 1)) = omega arith in ap (λ (n : ℕ). columnsOf n rest) e
 

@@ -4,7 +4,10 @@ mod rows; // the marks of a table's rows, and counts of them
 mod sets; // one set: its bits and their number
 
 pub use rows::count_holding;
+pub use rows::every_row;
+pub use rows::holds;
 pub use rows::mark;
+pub use rows::mark_all;
 pub use sets::above;
 pub use sets::bit;
 pub use sets::full_mask;

@@ -1,14 +1,15 @@
-// Rows as masks: which of a row's columns reach a value. What a set of columns asks of the rows then costs one pass over one number a row.
+// Rows as masks: which of a row's columns reach a value, or lie above it. What a set of columns asks of the rows then costs one pass over one number a row.
 ghost use mathlib.Core.Path.{_≡_};
 ghost use Prim.Native.Nat.{_<_, _≤_, _-_};
-ghost use lib.Dec.{leb, ltb};
-ghost use lib.ListN.{length, take};
+ghost use mathlib.Core.List.{map};
+ghost use lib.Dec.{T, leb, ltb};
+ghost use lib.ListN.{length, take, getD, replicate};
 ghost use Rattle.order.specs.Order.{atMost};
-ghost use Rattle.order.specs.Counting.{bit};
-ghost use Rattle.order.specs.Lists.{rowsOf};
+ghost use Rattle.order.specs.Counting.{bit, all};
+ghost use Rattle.order.specs.Lists.{rowsOf, tabulate};
 ghost use Rattle.columns.specs.Columns.{size, columnsOf};
 ghost use Rattle.masks.specs.Internal.{CheckedTable};
-ghost use Rattle.masks.specs.Marks.{markOf, marksOf, holding};
+ghost use Rattle.masks.specs.Marks.{passes, markOf, marksOf, rowsKept, marksAt, holds, holding};
 
 // A set without its lowest column. In a function of its own the compiler sees that the test is not needed.
 fn without_lowest(x: u32) -> u32
@@ -41,6 +42,14 @@ fn has_at_least(x: u32, k: usize) -> bool
     c != 0
 }
 
+// Whether a mark holds at least k columns of `set`.
+pub fn holds(mark: u32, set: u32, k: usize) -> bool
+    requires { ⌜ (0 < k) × (k ≤ 4) ⌝ }
+    ensures { λ r. ⌜ r ≡ holds k set mark ⌝ }
+{
+    has_at_least(mark & set, k)
+}
+
 // How many marks hold at least k columns of `set`. Counted in a u32: then the loop takes several marks at a time.
 pub fn count_holding(marks: &[u32], set: u32, k: usize) -> usize
     requires { ⌜ (0 < k) × (k ≤ 4) × (length (now marks) ≤ 4096) ⌝ }
@@ -49,7 +58,7 @@ pub fn count_holding(marks: &[u32], set: u32, k: usize) -> usize
     let mut n: u32 = 0;
     let mut i: usize = 0;
     while i < marks.len() {
-        if has_at_least(marks[i] & set, k) {
+        if holds(marks[i], set, k) {
             n += 1;
         }
         i += 1;
@@ -57,46 +66,93 @@ pub fn count_holding(marks: &[u32], set: u32, k: usize) -> usize
     n as usize
 }
 
-// The columns of a row whose value is at least v, from the last one on.
-fn row_mask(row: &[f64], v: f64) -> u32
+// Whether x is above v, or, where `above` is false, reaches it.
+fn passes(above: bool, v: f64, x: f64) -> bool
+    ensures { λ r. ⌜ r ≡ passes above v x ⌝ }
+{
+    if above {
+        return v < x;
+    }
+    v <= x
+}
+
+// The columns of a row whose value passes, from the last one on.
+fn row_mask(row: &[f64], above: bool, v: f64) -> u32
     requires { ⌜ length (now row) ≤ 32 ⌝ }
-    ensures { λ r. ⌜ r ≡ markOf (λ x. atMost v x) (now (row .entry)) ⌝ }
+    ensures { λ r. ⌜ r ≡ markOf (λ x. passes above v x) (now (row .entry)) ⌝ }
 {
     let mut m: u32 = 0;
     let mut i: usize = row.len();
     while 0 < i {
         i -= 1;
         m *= 2;
-        if v <= row[i] {
+        if passes(above, v, row[i]) {
             m += 1;
         }
     }
     m
 }
 
-// The marks by v of those rows that have at least k columns in theirs, into the first places of `marks`: answers how many.
+// The number of each row, and the same mark for each, into the first places of `kept` and `marks`.
+pub fn every_row(kept: &mut [u16], marks: &mut [u32], rows: usize, mark: u32)
+    requires { ⌜ (rows ≤ 4096) × (rows ≤ length (now kept)) × (rows ≤ length (now marks)) ⌝ }
+    ensures { λ _. ⌜ (take rows (now (kept .exit)) ≡ tabulate rows (λ g. g)) × (take rows (now (marks .exit)) ≡ replicate rows mark) ⌝ }
+{
+    let mut g: usize = 0;
+    while g < rows {
+        kept[g] = g as u16;
+        marks[g] = mark;
+        g += 1;
+    }
+}
+
+// Of the n rows whose numbers stand in `kept`, those stay that have at least k columns which pass, and their marks are made anew: answers how many. Each row is
+// written to the next place, which is taken only where the row stays: no branch.
 pub fn mark(
     table: &[f64],
+    kept: &mut [u16],
+    marks: &mut [u32],
+    n: usize,
+    rows: usize,
+    columns: usize,
+    k: usize,
+    above: bool,
+    v: f64,
+) -> usize
+    requires { ⌜ CheckedTable (now table) rows columns k × (n ≤ length (now kept)) × (n ≤ length (now marks)) × T (all (λ g. ltb g rows) (take n (now kept))) ⌝ }
+    ensures { λ r. ⌜ (r ≤ n) × (take r (now (kept .exit)) ≡ rowsKept k (λ x. passes above v x) (rowsOf rows columns (now (table .entry))) (take n (now (kept .entry)))) × (take r (now (marks .exit)) ≡ marksAt (λ x. passes above v x) (rowsOf rows columns (now (table .entry))) (take r (now (kept .exit)))) ⌝ }
+{
+    let mut m: usize = 0;
+    let mut i: usize = 0;
+    while i < n {
+        let g = kept[i];
+        let a = (g as usize) * columns;
+        let e = a + columns;
+        let x = row_mask(&table[a..e], above, v);
+        kept[m] = g;
+        marks[m] = x;
+        if has_at_least(x, k) {
+            m += 1;
+        }
+        i += 1;
+    }
+    m
+}
+
+// The same from all rows on.
+pub fn mark_all(
+    table: &[f64],
+    kept: &mut [u16],
     marks: &mut [u32],
     rows: usize,
     columns: usize,
     k: usize,
+    above: bool,
     v: f64,
 ) -> usize
-    requires { ⌜ CheckedTable (now table) rows columns k × (rows ≤ length (now marks)) ⌝ }
-    ensures { λ r. ⌜ (r ≤ rows) × (take r (now (marks .exit)) ≡ marksOf k (λ x. atMost v x) (rowsOf rows columns (now (table .entry)))) ⌝ }
+    requires { ⌜ CheckedTable (now table) rows columns k × (rows ≤ length (now kept)) × (rows ≤ length (now marks)) ⌝ }
+    ensures { λ r. ⌜ (r ≤ rows) × (take r (now (marks .exit)) ≡ marksOf k (λ x. passes above v x) (rowsOf rows columns (now (table .entry)))) ⌝ }
 {
-    let mut n: usize = 0;
-    let mut g: usize = 0;
-    while g < rows {
-        let a = g * columns;
-        let e = a + columns;
-        let m = row_mask(&table[a..e], v);
-        if has_at_least(m, k) {
-            marks[n] = m;
-            n += 1;
-        }
-        g += 1;
-    }
-    n
+    every_row(kept, marks, rows, 0);
+    mark(table, kept, marks, rows, rows, columns, k, above, v)
 }

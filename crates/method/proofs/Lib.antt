@@ -1,2 +1,3 @@
 pub mod Critical
 pub mod Reaching
+pub mod Exceeding

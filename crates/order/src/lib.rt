@@ -1,9 +1,13 @@
 // The order of f64 values: which are finite, plus zero for either zero, and their places in the 64-bit order.
 // The definitions are in specs/, their laws in proofs/.
 mod bits; // the 64-bit order
+mod pairs; // two values compared
 
 pub use bits::bits_place;
 pub use bits::value_at;
+pub use pairs::larger;
+pub use pairs::lesser;
+pub use pairs::one_where;
 ghost use mathlib.Core.Path.{_≡_};
 ghost use Rattle.order.specs.Order.{finite, withPlusZero};
 ghost use Rattle.order.specs.Counting.{all};

@@ -1,50 +1,54 @@
--- `at_least` meets its contract. The invariant: the rows counted and those still to come make the whole.
-use Rattle.order.specs.Lists.{rowsOf}
+-- `at_least` meets its contract. The invariant is `Surveyed` (proofs/Tally.antt).
+use Rattle.critical.proofs.Tally.{Surveyed, surveyed-start, surveyed-row, surveyed-turn, surveyed-end}
 use Rattle.order.proofs.Lists.{part-rows}
-use Rattle.method.specs.Method.{atLeast}
-use Rattle.masks.specs.Internal.{CheckedTable}
-use Rattle.critical.proofs.Tally.{reaching, tally-start, tally-in, tally-past, tally-end}
 use Rattle.masks.proofs.Parts.{start-fits}
-use mathlib.Core.Logic.{⊎-elim}
-use Prim.Native.Nat.{_≤_, _<_, _+_, _-_}
 use native.Mathlib.Omega.{arith}
-use mathlib.Core.Path.{_≡_}
+use Prim.Native.Nat.{_-_}
 use borrow.Author.Needs.{needs}
 use Rattle.critical.proofs.counts.at_least.Statement.{statement}
 use Rattle.critical.proofs.counts.at_least.Tie as tie
 
 abbrev Inv-loop : tie.InvT-loop
-Inv-loop table rows columns k j v n₀ g₀ n g = (g ≤ rows) × CheckedTable table rows columns k × (j < columns) × (n ≤ g) × (n + reaching table rows columns g v j ≡ atLeast (rowsOf rows columns table) v j)
+Inv-loop table rows columns k observed counts₀ from to g₀ counts g = Surveyed table rows columns observed k counts g
 
 abbrev μ-loop : tie.MeasureT-loop
-μ-loop table rows columns k j v n₀ g₀ n g = rows - g
+μ-loop table rows columns k observed counts₀ from to g₀ counts g = rows - g
+
+mul-from : tie.Need-mul-from Inv-loop μ-loop
+mul-from c = let r = c .before .pre in let f = start-fits _ _ _ (r .0 .rows-most) (r .0 .cols-most) (r .1) in omega (arith, f)
+
+add-to : tie.Need-add-to Inv-loop μ-loop
+add-to c = let r = c .before .pre in let f = start-fits _ _ _ (r .0 .rows-most) (r .0 .cols-most) (r .1) in omega (arith, f)
 
 loop-holds : tie.Need-loop-holds Inv-loop μ-loop
-loop-holds c = let q = c .pre in (omega arith, q .0, q .1, omega arith, tally-start _ _ _ _ _)
+loop-holds c = let r = c .before .pre in surveyed-start _ _ _ _ _ (r .0) (r .1)
 
-mul-at : tie.Need-mul-at Inv-loop μ-loop
-mul-at c = let l = c .before .loop .inv in let f = start-fits _ _ _ (l .1 .rows-most) (l .1 .cols-most) (c .loop-test .taken) in omega (arith, f)
+mul-a : tie.Need-mul-a Inv-loop μ-loop
+mul-a c = let l = c .before .loop .inv in let f = start-fits _ _ _ (l .ready .rows-most) (l .ready .cols-most) (c .loop-test .taken) in omega (arith, f)
 
-add-at : tie.Need-add-at Inv-loop μ-loop
-add-at c = let l = c .before .loop .inv in let f = start-fits _ _ _ (l .1 .rows-most) (l .1 .cols-most) (c .loop-test .taken) in omega (arith, f, l .2)
+add-e : tie.Need-add-e Inv-loop μ-loop
+add-e c = let l = c .before .loop .inv in let f = start-fits _ _ _ (l .ready .rows-most) (l .ready .cols-most) (c .loop-test .taken) in omega (arith, f)
 
-mul-if1 : tie.Need-mul-if1 Inv-loop μ-loop
-mul-if1 c = let l = c .before .loop .inv in let f = start-fits _ _ _ (l .1 .rows-most) (l .1 .cols-most) (c .loop-test .taken) in omega (arith, f, l .2)
+mul-tally : tie.Need-mul-tally Inv-loop μ-loop
+mul-tally c = let l = c .before .loop .inv in let f = start-fits _ _ _ (l .ready .rows-most) (l .ready .cols-most) (c .loop-test .taken) in omega (arith, f)
 
-shared-slice-read-if1 : tie.Need-shared-slice-read-if1 Inv-loop μ-loop
-shared-slice-read-if1 c = let l = c .before .before .loop .inv in let a = c .before .before .before .args in omega (arith, part-rows (a .rows) (a .columns) (c .before .before .loop .g) (c .before .loop-test .taken), l .1 .full, l .2)
+part-tally-end : tie.Need-part-tally-end Inv-loop μ-loop
+part-tally-end c = let a = c .before .before .before .args in omega (arith, part-rows (a .rows) (a .columns) (c .before .loop .g) (c .loop-test .taken), c .before .loop .inv .ready .full)
+
+mul-tally-2 : tie.Need-mul-tally-2 Inv-loop μ-loop
+mul-tally-2 c = let l = c .before .before .loop .inv in let f = start-fits _ _ _ (l .ready .rows-most) (l .ready .cols-most) (l .seen) in omega (arith, f)
+
+part-tally-end-2 : tie.Need-part-tally-end-2 Inv-loop μ-loop
+part-tally-end-2 c = let a = c .before .before .before .before .args in let l = c .before .before .loop .inv in omega (arith, part-rows (a .rows) (a .columns) (a .observed) (l .seen), l .ready .full)
+
+tally-requires : tie.Need-tally-requires Inv-loop μ-loop
+tally-requires c κs = let g = c .before .before .before in surveyed-row (g .before .loop .inv) (g .loop-test .taken)
 
 loop-again : tie.Need-loop-again Inv-loop μ-loop
-loop-again c =
-    let t = c .before .before in
-    let l = t .before .loop .inv in
-    ⊎-elim
-    (λ w. (omega arith, l .1, l .2, omega arith, tally-in _ _ _ _ _ _ (t .loop-test .taken) (l .2) _ _ _ (w .0 .taken) (w .1) (l .4)))
-    (λ w. (omega arith, l .1, l .2, omega arith, tally-past _ _ _ _ _ _ (t .loop-test .taken) (l .2) _ _ _ (w .0 .left) (w .1) (l .4)))
-    (c .if1 .came)
+loop-again c = let w = c .before in let g = c .before .before .before .before .before in surveyed-turn (g .before .loop .inv) (g .loop-test .taken) _ (w .tally .kept .1 .1 .0) (w .tally .ensures)
 
 returns : tie.Need-returns Inv-loop μ-loop
-returns c = let l = c .before .loop .inv in tally-end _ _ _ _ _ _ _ (c .loop-test .left) (l .4)
+returns c = surveyed-end (c .before .loop .inv) (c .loop-test .left)
 
 pub at-least-spec : {M : Type 1} → statement M
 at-least-spec =
@@ -52,12 +56,21 @@ at-least-spec =
     (tie.spec
     Inv-loop
     μ-loop
+    mul-from
+    add-to
     loop-holds
-    mul-at
-    add-at
-    mul-if1
-    shared-slice-read-if1
+    mul-a
+    add-e
+    mul-tally
     (λ c. search needs)
+    (λ c. search needs)
+    part-tally-end
+    mul-tally-2
+    (λ c. search needs)
+    (λ c. search needs)
+    part-tally-end-2
+    (λ c. search needs)
+    tally-requires
     (λ c. search needs)
     (λ c. search needs)
     loop-again

@@ -8,25 +8,34 @@ use borrow.Author.Needs.{needs}
 use Rattle.critical.proofs.quantile.critical_value.Statement.{statement}
 use Rattle.critical.proofs.quantile.critical_value.Tie as tie
 
+array-share-prefix-columns : tie.Need-array-share-prefix-columns
+array-share-prefix-columns c = c .before .before .members .ensures .0
+
+slice-aggregate-fill : tie.Need-slice-aggregate-fill
+slice-aggregate-fill c = let m = c .before .before .before .members in sym (length-take-le (m .result .count) (m .result .columns) (m .ensures .0))
+
 slice-aggregate-mth-smallest : tie.Need-slice-aggregate-mth-smallest
-slice-aggregate-mth-smallest c = let f = c .before .before .before in sym (length-take-le (f .before .before .before .before .args .f .rows) (f .fill .last .1 .0) (omega (arith, f .fill .kept .1 .0)))
+slice-aggregate-mth-smallest c = let f = c .before .before .before in sym (length-take-le (f .before .before .before .before .before .before .before .args .f .rows) (f .fill .last .1 .0) (omega (arith, f .fill .kept .1 .0)))
 
 mth-smallest-requires : tie.Need-mth-smallest-requires
 mth-smallest-requires c κs =
     let f = c .before .before .before .before in
-    let p = f .before .before .before .before .pre in
+    let p = f .before .before .before .before .before .before .before .pre in
     front-rank _ _ _ _ _ _ (p .0) (p .3) _ _ (f .fill .ensures)
 
 returns : tie.Need-returns
 returns c =
     let f = c .before .before .before .before .before in
-    let p = f .before .before .before .before .pre in
+    let p = f .before .before .before .before .before .before .before .pre in
     (quantile-is _ _ _ _ _ _ (p .0) (p .3) _ _ (f .fill .ensures) (c .mth-smallest .ensures), back-is _ _ _ _ _ _ (p .0) (p .3) _ _ (f .fill .ensures))
 
 pub critical-value-spec : {M : Type 1} → statement M
 critical-value-spec =
     tie.close
     (tie.spec
+    (λ c κs. search needs)
+    array-share-prefix-columns
+    slice-aggregate-fill
     (λ c κs. search needs)
     (λ c. search needs)
     slice-aggregate-mth-smallest

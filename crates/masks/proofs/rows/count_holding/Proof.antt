@@ -22,8 +22,8 @@ loop-again c =
     let t = c .before .before .before in
     let l = t .before .loop .inv in
     ⊎-elim
-    (λ w. (omega arith, counted-in _ _ _ 0 _ _ _ (t .loop-test .taken) (sym (c .before .has-at-least .ensures) ∙ w .0 .taken) (w .1) (l .1), omega arith, l .3, l .4, l .5))
-    (λ w. (omega arith, counted-past _ _ _ 0 _ _ _ (t .loop-test .taken) (sym (c .before .has-at-least .ensures) ∙ w .0 .left) (w .1) (l .1), omega arith, l .3, l .4, l .5))
+    (λ w. (omega arith, counted-in _ _ _ 0 _ _ _ (t .loop-test .taken) (sym (c .before .holds .ensures) ∙ w .0 .taken) (w .1) (l .1), omega arith, l .3, l .4, l .5))
+    (λ w. (omega arith, counted-past _ _ _ 0 _ _ _ (t .loop-test .taken) (sym (c .before .holds .ensures) ∙ w .0 .left) (w .1) (l .1), omega arith, l .3, l .4, l .5))
     (c .if1 .came)
 
 returns : tie.Need-returns Inv-loop μ-loop

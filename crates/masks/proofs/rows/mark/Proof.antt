@@ -1,73 +1,79 @@
--- `mark` meets its contract. The invariant: the first n places hold the marks of the first g rows.
-use Rattle.order.specs.Order.{atMost}
-use Rattle.order.specs.Lists.{rowsOf}
+-- `mark` meets its contract. The invariant is `Remarked` (proofs/Marking.antt).
 use Rattle.order.proofs.Lists.{part-rows}
-use Rattle.masks.specs.Internal.{CheckedTable}
-use Rattle.masks.specs.Marks.{marksOf}
+use Rattle.masks.specs.Marks.{passes}
 use Rattle.masks.proofs.Parts.{start-fits, part-narrow}
-use Rattle.masks.proofs.Marking.{marked-start, marked-in, marked-past, marked-done}
-use lib.ListN.{length, take, length-set}
+use Rattle.masks.proofs.Marking.{Remarked, remarked-start, kept-fits, row-inside, remarked-in, remarked-past, remarked-end}
 use mathlib.Core.Logic.{⊎-elim}
 use native.Mathlib.Omega.{arith}
-use Prim.Native.Nat.{_≤_, _-_}
-use mathlib.Core.Path.{_≡_, refl, sym, ap, _∙_}
+use Prim.Native.Nat.{_-_}
+use mathlib.Core.Path.{sym, _∙_}
 use borrow.Author.Needs.{needs}
 use Rattle.masks.proofs.rows.mark.Statement.{statement}
 use Rattle.masks.proofs.rows.mark.Tie as tie
 
 abbrev Inv-loop : tie.InvT-loop
-Inv-loop table marks₀ rows columns k v n₀ g₀ marks n g = (g ≤ rows) × CheckedTable table rows columns k × (rows ≤ length marks₀) × (length marks ≡ length marks₀) × (n ≤ g) × (take n marks ≡ marksOf k (λ x. atMost v x) (take g (rowsOf rows columns table)))
+Inv-loop table kept₀ marks₀ n rows columns k above v m₀ i₀ kept marks m i = Remarked table rows columns k n (λ x. passes above v x) kept₀ marks₀ kept marks m i
 
 abbrev μ-loop : tie.MeasureT-loop
-μ-loop table marks₀ rows columns k v n₀ g₀ marks n g = rows - g
+μ-loop table kept₀ marks₀ n rows columns k above v m₀ i₀ kept marks m i = n - i
 
 loop-holds : tie.Need-loop-holds Inv-loop μ-loop
-loop-holds c = let b = c .before .before in (omega arith, b .pre .0, b .pre .1, refl, omega arith, marked-start _ _ (rowsOf (b .args .rows) (b .args .columns) (b .args .table .now)) (b .args .marks .now))
+loop-holds c = let p = c .before .before .before .pre in remarked-start _ _ _ _ _ _ _ _ (p .0) (p .1) (p .2) (p .3)
+
+mul-g : tie.Need-mul-g Inv-loop μ-loop
+mul-g c = let l = c .before .loop .inv in omega (arith, l .ready .rows-most, kept-fits l (c .loop-test .taken))
+
+slice-read-g : tie.Need-slice-read-g Inv-loop μ-loop
+slice-read-g c = kept-fits (c .before .before .loop .inv) (c .before .loop-test .taken)
+
+cast-a : tie.Need-cast-a Inv-loop μ-loop
+cast-a c = let l = c .before .before .loop .inv in omega (arith, row-inside l (c .before .loop-test .taken), l .ready .rows-most)
 
 mul-a : tie.Need-mul-a Inv-loop μ-loop
-mul-a c = let l = c .before .loop .inv in let f = start-fits _ _ _ (l .1 .rows-most) (l .1 .cols-most) (c .loop-test .taken) in omega (arith, f)
+mul-a c = let l = c .before .before .loop .inv in let f = start-fits _ _ _ (l .ready .rows-most) (l .ready .cols-most) (row-inside l (c .before .loop-test .taken)) in omega (arith, f)
 
 add-e : tie.Need-add-e Inv-loop μ-loop
-add-e c = let l = c .before .loop .inv in let f = start-fits _ _ _ (l .1 .rows-most) (l .1 .cols-most) (c .loop-test .taken) in omega (arith, f)
+add-e c = let l = c .before .before .loop .inv in let f = start-fits _ _ _ (l .ready .rows-most) (l .ready .cols-most) (row-inside l (c .before .loop-test .taken)) in omega (arith, f)
 
 mul-row-mask : tie.Need-mul-row-mask Inv-loop μ-loop
-mul-row-mask c = let l = c .before .loop .inv in let f = start-fits _ _ _ (l .1 .rows-most) (l .1 .cols-most) (c .loop-test .taken) in omega (arith, f)
+mul-row-mask c = let l = c .before .before .loop .inv in let f = start-fits _ _ _ (l .ready .rows-most) (l .ready .cols-most) (row-inside l (c .before .loop-test .taken)) in omega (arith, f)
 
 part-row-mask-end : tie.Need-part-row-mask-end Inv-loop μ-loop
-part-row-mask-end c = let a = c .before .before .before .before .args in omega (arith, part-rows (a .rows) (a .columns) (c .before .loop .g) (c .loop-test .taken), c .before .loop .inv .1 .full)
+part-row-mask-end c = let a = c .before .before .before .before .before .before .args in let l = c .before .before .loop .inv in omega (arith, part-rows (a .rows) (a .columns) _ (row-inside l (c .before .loop-test .taken)), l .ready .full)
 
 row-mask-requires : tie.Need-row-mask-requires Inv-loop μ-loop
-row-mask-requires c κs = part-narrow _ _ _ _ _ (c .before .before .loop .inv .1) (c .before .loop-test .taken)
+row-mask-requires c κs = let l = c .before .before .before .loop .inv in part-narrow _ _ _ _ _ (l .ready) (row-inside l (c .before .before .loop-test .taken))
+
+mul-kept : tie.Need-mul-kept Inv-loop μ-loop
+mul-kept c = let l = c .before .before .before .before .loop .inv in omega (arith, l .few)
+
+slice-write-kept : tie.Need-slice-write-kept Inv-loop μ-loop
+slice-write-kept c = let w = c .before .before .before in let l = w .before .loop .inv in omega (arith, l .few, kept-fits l (w .loop-test .taken))
+
+mul-marks : tie.Need-mul-marks Inv-loop μ-loop
+mul-marks c = let l = c .before .before .before .before .loop .inv in omega (arith, l .few)
+
+slice-write-marks : tie.Need-slice-write-marks Inv-loop μ-loop
+slice-write-marks c = let w = c .before .before .before in let l = w .before .loop .inv in omega (arith, l .few, w .loop-test .taken, l .room .1, l .as-long .1)
 
 has-at-least-requires : tie.Need-has-at-least-requires Inv-loop μ-loop
-has-at-least-requires c κs = let l = c .before .before .before .loop .inv in (l .1 .k-some, l .1 .k-most)
+has-at-least-requires c κs = let l = c .before .before .before .before .loop .inv in (l .ready .k-some, l .ready .k-most)
+
+add-m : tie.Need-add-m Inv-loop μ-loop
+add-m c = let l = c .before .before .before .before .before .before .loop .inv in omega (arith, l .few)
 
 loop-again : tie.Need-loop-again Inv-loop μ-loop
-loop-again c =
-    let m = c .before .before in
-    let t = m .before .before in
-    let l = t .before .loop .inv in
+loop-again c = 
+    let x = c .before .before in
+    let w = x .before .before .before in
+    let l = w .before .loop .inv in
     ⊎-elim
-    (λ w. (
-      omega arith,
-      l .1,
-      l .2,
-      ap length (w .1) ∙ length-set (t .before .loop .marks) _ _ ∙ l .3,
-      omega (arith, w .2, l .4),
-      marked-in _ _ _ _ _ (l .1) (t .loop-test .taken) _ _ _ _ _ _ (omega (arith, l .2, l .3, l .4)) (m .row-mask .ensures) (sym (c .before .has-at-least .ensures) ∙ w .0 .taken) (w .1) (w .2) (l .5),
-    ))
-    (λ w. (
-      omega arith,
-      l .1,
-      l .2,
-      ap length (w .1) ∙ l .3,
-      omega (arith, w .2, l .4),
-      marked-past _ _ _ _ _ (l .1) (t .loop-test .taken) _ _ _ _ _ _ (m .row-mask .ensures) (sym (c .before .has-at-least .ensures) ∙ w .0 .left) (w .1) (w .2) (l .5),
-    ))
+    (λ u. remarked-in l (w .loop-test .taken) _ (x .row-mask .ensures) _ (sym (c .before .has-at-least .ensures) ∙ u .0 .taken) (u .1))
+    (λ u. remarked-past l (w .loop-test .taken) _ (x .row-mask .ensures) _ (sym (c .before .has-at-least .ensures) ∙ u .0 .left) (u .1))
     (c .if1 .came)
 
 returns : tie.Need-returns Inv-loop μ-loop
-returns c = let l = c .before .loop .inv in (omega arith, marked-done _ _ _ _ _ _ _ (c .loop-test .left) (l .5))
+returns c = remarked-end (c .before .loop .inv) (c .loop-test .left)
 
 pub mark-spec : {M : Type 1} → statement M
 mark-spec =
@@ -76,6 +82,9 @@ mark-spec =
     Inv-loop
     μ-loop
     loop-holds
+    mul-g
+    slice-read-g
+    cast-a
     mul-a
     add-e
     mul-row-mask
@@ -83,12 +92,15 @@ mark-spec =
     (λ c. search needs)
     part-row-mask-end
     row-mask-requires
+    mul-kept
+    slice-write-kept
+    mul-marks
+    slice-write-marks
     has-at-least-requires
-    (λ c. search needs)
-    (λ c. search needs)
-    (λ c. search needs)
+    add-m
     (λ c. search needs)
     (λ c. search needs)
     loop-again
+    (λ c. search needs)
     (λ c. search needs)
     returns)

@@ -1,0 +1,6 @@
+pub mod Better
+pub mod Branches
+pub mod Pruning
+pub mod Walking
+pub mod Start
+pub mod PutBackValue
