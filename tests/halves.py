@@ -13,10 +13,10 @@ import tempfile
 import unittest
 from pathlib import Path
 
-# About half of the time, most of it to build static libraries. All others, new ones too, are in the second half.
-FIRST = ("test_benchcalls", "test_chost")
-# They call `rt` as well, one at a time (commands.py): at the end, when the libraries have been built.
-LAST = ("test_adjusted", "test_report")
+# What the first process runs: about half of the time. The second runs all others, new ones too.
+FIRST = ("test_chost", "test_cases", "test_putback", "test_vectors")
+# They call `rt`, of which one runs at a time (commands.py): at the end, when test_chost has long had its library.
+LAST = ("test_adjusted", "test_benchcalls", "test_report")
 
 
 def tests_of(suite):
@@ -41,10 +41,10 @@ def discovered(folder) -> list:
 
 def halves(modules) -> list:
     """The modules of each process that has some: without a name unittest would run all."""
-    names = list(dict.fromkeys(modules))
-    first = [name for name in names if name in FIRST]
-    second = sorted((name for name in names if name not in FIRST), key=lambda name: name in LAST)
-    return [half for half in (first, second) if half]
+    names = dict.fromkeys(modules)
+    first, last = ([name for name in listed if name in names] for listed in (FIRST, LAST))
+    others = [name for name in names if name not in FIRST + LAST]
+    return [half for half in (first, others + last) if half]
 
 
 def start(folder, names):

@@ -81,8 +81,8 @@ class Halves(unittest.TestCase):
         split = halves.halves(halves.discovered(HERE))
         self.assertEqual(len(split), 2)
         self.assertEqual(sorted(split[0] + split[1]), sorted(path.stem for path in HERE.glob("test_*.py")))
-        self.assertEqual(sorted(split[0]), sorted(halves.FIRST))
-        self.assertEqual(sorted(split[1][-len(halves.LAST):]), sorted(halves.LAST))
+        self.assertEqual(split[0], list(halves.FIRST))
+        self.assertEqual(split[1][-len(halves.LAST):], list(halves.LAST))
 
 
 if __name__ == "__main__":

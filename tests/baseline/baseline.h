@@ -3,7 +3,7 @@
  *
  * It has what the benchmark measures and no more, with the same lent buffers and without allocation:
  *   stepdown.c   full runs of tables
- *   masks.c      the same, with the rows as masks of columns
+ *   masks.c      the same, with the rows as masks of columns (steps.h, masks.h: what it shares with others)
  *   adjusted.c   adjusted figures of tables (document 02, section 1)
  *   trial.c      trial records: checks, table, full run
  *   file.c       trial files: reader and writer
@@ -48,8 +48,8 @@ struct full_run {
     uint8_t step[MOST_COLUMNS];
     size_t count[MOST_COLUMNS];
     size_t rejected;
-    size_t sets;         /* how many sets of columns were looked at: without masks, a critical value worked out */
-    size_t looks, rises; /* with masks: passes over the masks; sets that a critical value was worked out for */
+    size_t sets;         /* how many sets of columns were looked at; without masks c(K) is worked out for each */
+    size_t looks, rises; /* with masks and k > 1: passes over the masks, and sets for which c(K) was worked out */
 };
 
 /* A trial: the difference of offer i and pair j (from 0) stands at i * pairs + j. */

@@ -12,9 +12,10 @@
 #include "masks.h"
 #include "steps.h"
 
+/* So many rows side by side; a sample has one row in so many. */
 enum { ABREAST = 4, SPARSE = 16, MOST_SAMPLED = MOST_ROWS / SPARSE };
 
-/* What a step has found so far, and the rows that can still count: k columns above best, of which one is kept. */
+/* What a step has found so far, and the rows that can still count: k or more columns above best, a kept one of them. */
 struct walk {
     const struct table *table;
     struct full_run *run;
@@ -39,6 +40,7 @@ static inline double larger(double x, double y)
     return x < y ? y : x;
 }
 
+/* Compares the other way round: of two choices by the same comparison gcc makes a branch. */
 static inline double smaller(double x, double y)
 {
     return y < x ? y : x;

@@ -2,4 +2,5 @@ pub mod RowMax
 pub mod Members
 pub mod TableRows
 pub mod Raising
+pub mod Sampling
 pub mod Tally

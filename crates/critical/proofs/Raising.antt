@@ -55,8 +55,13 @@ module _ (n k : ℕ) (X : List (List Float)) (sound : Sound n X) (narrow : n ≤
 
   marked-few : length kept ≤ length X
   unfolding rowsKept
-  marked-few = omega (arith, ap length (w .stay), those-length (λ g. leb k (size (columnsOf 32 (markOf (λ x. smaller v x) (getD X g []))))) (tabulate (length X) (λ g. g)),
-      count-length (λ g. leb k (size (columnsOf 32 (markOf (λ x. smaller v x) (getD X g []))))) (tabulate (length X) (λ g. g)), tabulate-length (length X) (λ g. g))
+  marked-few = omega (
+    arith,
+    ap length (w .stay),
+    those-length (λ g. leb k (size (columnsOf 32 (markOf (λ x. smaller v x) (getD X g []))))) (tabulate (length X) (λ g. g)),
+    count-length (λ g. leb k (size (columnsOf 32 (markOf (λ x. smaller v x) (getD X g []))))) (tabulate (length X) (λ g. g)),
+    tabulate-length (length X) (λ g. g),
+  )
 
   marked-even : length marks ≡ length kept
   marked-even = ap length (w .marked) ∙ length-map kept (λ g. markOf (λ x. smaller v x) (getD X g []))

@@ -23,7 +23,13 @@ fn tally(row: &[f64], observed: &[f64], counts: &mut [usize])
 }
 
 // The count of each column.
-pub fn at_least(table: &[f64], rows: usize, columns: usize, k: usize, observed: usize) -> [usize; 32]
+pub fn at_least(
+    table: &[f64],
+    rows: usize,
+    columns: usize,
+    k: usize,
+    observed: usize,
+) -> [usize; 32]
     requires { ⌜ CheckedTable (now table) rows columns k × (observed < rows) ⌝ }
     ensures { λ r. ⌜ r ≡ padded 32 0 (tabulate columns (λ j. atLeast (rowsOf rows columns (now (table .entry))) (getD (now (table .entry)) (observed * columns + j) nan) j)) ⌝ }
 {

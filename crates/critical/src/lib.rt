@@ -4,10 +4,12 @@ mod counts; // formula 16: how many rows reach each observed value
 mod kmax; // a row's k-max
 mod quantile; // c(K): a quantile of the k-max values, with the work buffer
 mod raise; // c(K) where it is known to be above a value
+mod sample; // a value that c(K) is likely to be above
 
 pub use counts::at_least;
 pub use quantile::critical_value;
 pub use raise::raised;
+pub use sample::likely_below;
 
 // What stays the same in all critical values of a run: M and the columns, k, and e.
 pub struct Figures {

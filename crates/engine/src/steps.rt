@@ -1,5 +1,6 @@
 // One step from a state that can be stepped.
 use critical::Figures;
+use limits::TABLE_ROWS_MOST;
 use runs::Record;
 use runs::State;
 use runs::Step;
@@ -28,6 +29,8 @@ fn critical_of(s: State, table: &[f64], work: &mut [f64]) -> f64
     requires { ⌜ CanStep (now table) s × (s .rows ≤ length (now work)) ⌝ }
     ensures { λ c. ⌜ (c ≡ stepdown.criticalOf (rowsOf (s .rows) (s .columns) (now (table .entry))) s) × (drop (s .rows) (now (work .exit)) ≡ drop (s .rows) (now (work .entry))) ⌝ }
 {
+    let mut kept = [0u16; TABLE_ROWS_MOST];
+    let mut marks = [0u32; TABLE_ROWS_MOST];
     let f = Figures {
         rows: s.rows,
         columns: s.columns,
@@ -35,9 +38,17 @@ fn critical_of(s: State, table: &[f64], work: &mut [f64]) -> f64
         e: s.e,
     };
     if s.steps == 0 {
-        return critical::critical_value(table, work, f, s.live);
+        return putback::critical_value(table, work, &mut kept, &mut marks, f, s.live);
     }
-    putback::put_back(table, work, f, s.live - s.rejected, s.rejected)
+    putback::put_back(
+        table,
+        work,
+        &mut kept,
+        &mut marks,
+        f,
+        s.live - s.rejected,
+        s.rejected,
+    )
 }
 
 // Whether a step that rejected the columns of `new` ends the run: nothing new, fewer than k in all, or none left.

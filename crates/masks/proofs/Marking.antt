@@ -1,15 +1,18 @@
 -- The marks of a table's rows, as the code makes them.
---   mark-start, mark-in, mark-past, mark-done    one row, from its last column on; mark-room: with room for one column more
+--   bit-in, bit-out      a column that passes, and one that does not; bit-at: by its bit
+--   mark-start, mark-turn, mark-done    one row, column after column; mark-room, mark-fits, mark-within: the mask stays below the bit of the next column, and within 32
 --   Remarked, remarked-start, remarked-in, remarked-past, remarked-end     the rows whose numbers stand in a list, one after the other; kept-fits, row-inside: the next one
 --   rows-all, marks-all  all rows, and the marks of those that stay; numbers-inside: the numbers of all rows
---   numbered-more, repeated-more     these numbers, and one mark for each, one row more
+--   all-inside, all-kept, all-marked     the numbers of all rows, and the marks of those that stay
+--   tabulated-more, tabulated-all     a table of numbers, one more; doubled, doubled-fits: the bits of columns
 use Prim.Native.Nat.{ℕ, zero, suc, _+_, _-_, _*_, _^_, _≤_, _<_}
 use native.Mathlib.Omega.{arith}
 use native.Mathlib.Numerals.{add-one}
+use native.Mathlib.Nat.{pow-suc, mul-add, mul-assoc, mul-comm, mul-zero, one-mul, zero-mul}
 use mathlib.Core.Path.{_≡_, refl, sym, ap, ap₂, _∙_, subst}
 use mathlib.Core.Bool.{Bool, true, false, cond}
 use mathlib.Core.List.{List, [], _∷_, _++_, map}
-use lib.ListN.{length, getD, take, drop, set, replicate, length-map, length-drop, length-set, drop-of-length-le}
+use lib.ListN.{length, getD, take, drop, set, length-map, length-drop, length-set, drop-of-length-le}
 use lib.Seq.{take-suc, take-suc-set, take-set-le, length-take-le, drop-cons, drop-drop, drop-set-lt, getD-drop, getD-take, ext-getD}
 use lib.Dec.{T, leb, ltb, ltb→lt, lt→ltb}
 use lib.Pow.{pow-mono}
@@ -29,32 +32,43 @@ use Rattle.masks.proofs.Those.{those-more, those-map}
 -- ---- one row
 
 module _ (p : Float → Bool) (row : List Float) where
-  pub mark-start : 0 ≡ markOf p (drop (length row) row)
+  pub mark-start : 0 + 2 ^ 0 * markOf p (drop 0 row) ≡ markOf p row
+  mark-start = omega arith
+
+  pub mark-turn : (i m d : ℕ) {t : ℕ} → i < length row → d ≡ bit (p (getD row i nan)) * 2 ^ i → m + 2 ^ i * markOf p (drop i row) ≡ t → m + d + 2 ^ (i + 1) * markOf p (drop (i + 1) row) ≡ t
   unfolding maskOf
-  mark-start = ap (markOf p) (sym (drop-of-length-le row {i = length row} (omega arith)))
+  mark-turn i m d h e q =
+      let next : markOf p (drop i row) ≡ bit (p (getD row i nan)) + 2 * markOf p (drop (i + 1) row) = ap (markOf p) (drop-cons row i nan h ∙ ap (λ (n : ℕ). getD row i nan ∷ drop n row) (sym (add-one i))) in
+      let times : 2 ^ i * markOf p (drop i row) ≡ 2 ^ i * bit (p (getD row i nan)) + 2 ^ i * (2 * markOf p (drop (i + 1) row)) = ap (λ (x : ℕ). 2 ^ i * x) next ∙ mul-add (2 ^ i) (bit (p (getD row i nan))) (2 * markOf p (drop (i + 1) row)) in
+      let twice : 2 ^ i * (2 * markOf p (drop (i + 1) row)) ≡ 2 ^ (i + 1) * markOf p (drop (i + 1) row) = sym (mul-assoc (2 ^ i) 2 (markOf p (drop (i + 1) row))) ∙ ap (λ (n : ℕ). n * markOf p (drop (i + 1) row)) (sym (pow-suc 2 i) ∙ ap (λ (n : ℕ). 2 ^ n) (sym (add-one i))) in
+      omega (arith, times, twice, e, mul-comm (2 ^ i) (bit (p (getD row i nan))), q)
 
-  mark-turn : (i m : ℕ) (b : Bool) → 0 < i → i ≤ length row → p (getD row (i - 1) nan) ≡ b → m ≡ markOf p (drop i row) → m * 2 + bit b ≡ markOf p (drop (i - 1) row)
+  pub mark-done : (i m : ℕ) {t : ℕ} → length row ≤ i → m + 2 ^ i * markOf p (drop i row) ≡ t → m ≡ t
   unfolding maskOf
-  mark-turn i m b l h e q =
-      let z : suc (i - 1) ≡ i = omega arith in
-      let d : markOf p (drop (i - 1) row) ≡ bit b + 2 * markOf p (drop i row) =
-      ap (markOf p) (drop-cons row (i - 1) nan (omega arith) ∙ ap (λ (j : ℕ). getD row (i - 1) nan ∷ drop j row) z) ∙ ap (λ (c : Bool). bit c + 2 * markOf p (drop i row)) e in
-      omega (arith, d, q)
+  mark-done i m h q = omega (arith, q, ap (λ (l : List Float). 2 ^ i * markOf p l) (drop-of-length-le row {i = i} h), mul-zero (2 ^ i))
 
-  pub mark-in : (i m : ℕ) → 0 < i → i ≤ length row → p (getD row (i - 1) nan) ≡ true → m ≡ markOf p (drop i row) → m * 2 + 1 ≡ markOf p (drop (i - 1) row)
-  mark-in i m l h e q = mark-turn i m true l h e q
+pub bit-in : (x : ℕ) (b : Bool) → b ≡ true → x ≡ bit b * x
+bit-in x b e = sym (ap (λ (c : Bool). bit c * x) e ∙ one-mul x)
 
-  pub mark-past : (i m : ℕ) → 0 < i → i ≤ length row → p (getD row (i - 1) nan) ≡ false → m ≡ markOf p (drop i row) → m * 2 ≡ markOf p (drop (i - 1) row)
-  mark-past i m l h e q = let z : m * 2 ≡ m * 2 + 0 = omega arith in z ∙ mark-turn i m false l h e q
+pub bit-out : (x : ℕ) (b : Bool) → b ≡ false → 0 ≡ bit b * x
+bit-out x b e = sym (ap (λ (c : Bool). bit c * x) e ∙ zero-mul x)
 
-  pub mark-done : (i m : ℕ) → i ≤ 0 → m ≡ markOf p (drop i row) → m ≡ markOf p row
-  mark-done i m h q = let z : i ≡ 0 = omega arith in q ∙ ap (λ (j : ℕ). markOf p (drop j row)) z
+pub bit-at : (bits : List ℕ) (i d : ℕ) (b : Bool) → bits ≡ tabulate 32 (λ j. 2 ^ j) → i < 32 → d ≡ bit b * getD bits i 0 → d ≡ bit b * 2 ^ i
+bit-at bits i d b q h e = e ∙ ap (λ (x : ℕ). bit b * x) (ap (λ (l : List ℕ). getD l i 0) q ∙ tabulate-getD 32 (λ j. 2 ^ j) i 0 h)
 
-  pub mark-room : (i m : ℕ) → 0 < i → i ≤ length row → length row ≤ 32 → m ≡ markOf p (drop i row) → m * 2 + 1 < 2 ^ 32
-  mark-room i m l h k q =
-      let n : length (map p (drop i row)) ≤ 31 = omega (arith, length-map (drop i row) p, length-drop i row) in
-      let r : 2 ^ length (map p (drop i row)) ≤ 2 ^ 31 = pow-mono n in
-      omega (arith, q, r, maskOf-lt (map p (drop i row)))
+-- a sum of bits stays below the next bit
+pub mark-room : (i m d : ℕ) (b : Bool) → m < 2 ^ i → d ≡ bit b * 2 ^ i → m + d < 2 ^ (i + 1)
+mark-room i m d b h e = go b e
+  where
+    go : (b : Bool) → d ≡ bit b * 2 ^ i → m + d < 2 ^ (i + 1)
+    go true e = let r : 2 ^ (i + 1) ≡ 2 ^ i * 2 = ap (λ (x : ℕ). 2 ^ x) (add-one i) ∙ pow-suc 2 i in omega (arith, e, r, one-mul (2 ^ i))
+    go false e = let r : 2 ^ (i + 1) ≡ 2 ^ i * 2 = ap (λ (x : ℕ). 2 ^ x) (add-one i) ∙ pow-suc 2 i in omega (arith, e, r, zero-mul (2 ^ i))
+
+pub mark-within : (i m : ℕ) → m < 2 ^ i → i ≤ 32 → m < 2 ^ 32
+mark-within i m k h = let q : 2 ^ i ≤ 2 ^ 32 = pow-mono h in omega (arith, q)
+
+pub mark-fits : (i n m : ℕ) → i < n → n ≤ 32 → m < 2 ^ (i + 1) → m < 2 ^ 64
+mark-fits i n m h l k = let q = mark-within (i + 1) m k (omega arith) in omega (arith, q)
 
 -- ---- the rows whose numbers stand in a list
 
@@ -178,21 +192,22 @@ numbers-inside n = below n n (λ g. g) (λ i h. lt→ltb i n h)
 pub all-inside : (rows : ℕ) (kept : List ℕ) → take rows kept ≡ tabulate rows (λ g. g) → T (all (λ g. ltb g rows) (take rows kept))
 all-inside rows kept q = subst (λ (l : List ℕ). T (all (λ g. ltb g rows) l)) (sym q) (numbers-inside rows)
 
-pub all-marked : (t : List Float) (rows cols k : ℕ) (p : Float → Bool) (r : ℕ) (kept kept′ marks′ : List ℕ) → take rows kept ≡ tabulate rows (λ g. g)
-    → take r kept′ ≡ rowsKept k p (rowsOf rows cols t) (take rows kept) → take r marks′ ≡ marksAt p (rowsOf rows cols t) (take r kept′) → take r marks′ ≡ marksOf k p (rowsOf rows cols t)
-all-marked t rows cols k p r kept kept′ marks′ q s m =
-    m ∙ ap (marksAt p (rowsOf rows cols t)) (s ∙ ap (rowsKept k p (rowsOf rows cols t)) (q ∙ ap (λ (n : ℕ). tabulate n (λ g. g)) (sym (rowsOf-length rows cols t)))) ∙ marks-all k p (rowsOf rows cols t)
+pub all-kept : (k : ℕ) (p : Float → Bool) (X : List (List Float)) (gs hs ns : List ℕ) → ns ≡ rowsKept k p X gs → gs ≡ hs → ns ≡ rowsKept k p X hs
+all-kept k p X gs hs ns e q = e ∙ ap (rowsKept k p X) q
 
--- the numbers of all rows, one after the other
-pub numbered-more : (g : ℕ) (kept us : List ℕ) → g < length kept → us ≡ set kept g g → take g kept ≡ tabulate g (λ i. i) → take (g + 1) us ≡ tabulate (g + 1) (λ i. i)
-numbered-more g kept us h e w = ap₂ (λ (j : ℕ) (l : List ℕ). take j l) (add-one g) e ∙ take-suc-set kept g g h ∙ ap (λ (l : List ℕ). l ++ (g ∷ [])) w ∙ sym (tabulate-more g (λ i. i))
+-- the rows that stay of all, and their marks
+pub all-marked : (t : List Float) (rows cols k : ℕ) (p : Float → Bool) (ns ms : List ℕ) → ns ≡ rowsKept k p (rowsOf rows cols t) (tabulate rows (λ g. g)) → ms ≡ marksAt p (rowsOf rows cols t) ns → ms ≡ marksOf k p (rowsOf rows cols t)
+all-marked t rows cols k p ns ms s m = m ∙ ap (marksAt p (rowsOf rows cols t)) (s ∙ ap (λ (n : ℕ). rowsKept k p (rowsOf rows cols t) (tabulate n (λ g. g))) (sym (rowsOf-length rows cols t))) ∙ marks-all k p (rowsOf rows cols t)
 
-pub repeated-more : (g x : ℕ) (marks us : List ℕ) → g < length marks → us ≡ set marks g x → take g marks ≡ replicate g x → take (g + 1) us ≡ replicate (g + 1) x
-repeated-more g x marks us h e w = ap₂ (λ (j : ℕ) (l : List ℕ). take j l) (add-one g) e ∙ take-suc-set marks g x h ∙ ap (λ (l : List ℕ). l ++ (x ∷ [])) w ∙ snoc g ∙ ap (λ (j : ℕ). replicate j x) (sym (add-one g))
-  where
-    snoc : (n : ℕ) → replicate n x ++ (x ∷ []) ≡ replicate (suc n) x
-    snoc zero = refl
-    snoc (suc n) = ap (λ (l : List ℕ). x ∷ l) (snoc n)
+-- a table of numbers, one after the other
+pub tabulated-more : (f : ℕ → ℕ) (g x : ℕ) (kept us : List ℕ) → g < length kept → x ≡ f g → us ≡ set kept g x → take g kept ≡ tabulate g f → take (g + 1) us ≡ tabulate (g + 1) f
+tabulated-more f g x kept us h p e w = ap₂ (λ (j : ℕ) (l : List ℕ). take j l) (add-one g) e ∙ take-suc-set kept g x h ∙ ap₂ (λ (l : List ℕ) (y : ℕ). l ++ (y ∷ [])) w p ∙ sym (tabulate-more g f)
 
-pub numbered-all : (g rows x : ℕ) (kept marks : List ℕ) → g ≤ rows → rows ≤ g → take g kept ≡ tabulate g (λ i. i) → take g marks ≡ replicate g x → (take rows kept ≡ tabulate rows (λ i. i)) × (take rows marks ≡ replicate rows x)
-numbered-all g rows x kept marks h l p q = let z : g ≡ rows = omega arith in subst (λ (n : ℕ). (take n kept ≡ tabulate n (λ i. i)) × (take n marks ≡ replicate n x)) z (p, q)
+pub tabulated-all : (f : ℕ → ℕ) (g rows : ℕ) (kept : List ℕ) → g ≤ rows → rows ≤ g → take g kept ≡ tabulate g f → take rows kept ≡ tabulate rows f
+tabulated-all f g rows kept h l p = let z : g ≡ rows = omega arith in subst (λ (n : ℕ). take n kept ≡ tabulate n f) z p
+
+pub doubled : (j b : ℕ) → b ≡ 2 ^ j → b * 2 ≡ 2 ^ (j + 1)
+doubled j b e = ap (λ (x : ℕ). x * 2) e ∙ sym (ap (λ (n : ℕ). 2 ^ n) (add-one j) ∙ pow-suc 2 j)
+
+pub doubled-fits : (j b : ℕ) → b ≡ 2 ^ j → j < 32 → b * 2 < 2 ^ 64
+doubled-fits j b e h = let d : j + 1 ≤ 32 = omega arith in let q : 2 ^ (j + 1) ≤ 2 ^ 32 = pow-mono d in omega (arith, doubled j b e, q)

@@ -4,7 +4,6 @@ mod rows; // the marks of a table's rows, and counts of them
 mod sets; // one set: its bits and their number
 
 pub use rows::count_holding;
-pub use rows::every_row;
 pub use rows::holds;
 pub use rows::mark;
 pub use rows::mark_all;

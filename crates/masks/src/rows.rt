@@ -1,15 +1,13 @@
 // Rows as masks: which of a row's columns reach a value, or lie above it. What a set of columns asks of the rows then costs one pass over one number a row.
 ghost use mathlib.Core.Path.{_≡_};
-ghost use Prim.Native.Nat.{_<_, _≤_, _-_};
-ghost use mathlib.Core.List.{map};
+ghost use Prim.Native.Nat.{_<_, _≤_, _-_, _*_, _^_};
 ghost use lib.Dec.{T, leb, ltb};
-ghost use lib.ListN.{length, take, getD, replicate};
-ghost use Rattle.order.specs.Order.{atMost};
+ghost use lib.ListN.{length, take};
 ghost use Rattle.order.specs.Counting.{bit, all};
 ghost use Rattle.order.specs.Lists.{rowsOf, tabulate};
 ghost use Rattle.columns.specs.Columns.{size, columnsOf};
 ghost use Rattle.masks.specs.Internal.{CheckedTable};
-ghost use Rattle.masks.specs.Marks.{passes, markOf, marksOf, rowsKept, marksAt, holds, holding};
+ghost use Rattle.masks.specs.Marks.{passes, markOf, rowsKept, marksAt, holds, holding};
 
 // A set without its lowest column. In a function of its own the compiler sees that the test is not needed.
 fn without_lowest(x: u32) -> u32
@@ -76,32 +74,53 @@ fn passes(above: bool, v: f64, x: f64) -> bool
     v <= x
 }
 
-// The columns of a row whose value passes, from the last one on.
-fn row_mask(row: &[f64], above: bool, v: f64) -> u32
-    requires { ⌜ length (now row) ≤ 32 ⌝ }
-    ensures { λ r. ⌜ r ≡ markOf (λ x. passes above v x) (now (row .entry)) ⌝ }
+// The bit of each column.
+fn bits() -> [u64; 32]
+    ensures { λ r. ⌜ r ≡ tabulate 32 (λ j. 2 ^ j) ⌝ }
 {
-    let mut m: u32 = 0;
-    let mut i: usize = row.len();
-    while 0 < i {
-        i -= 1;
-        m *= 2;
-        if passes(above, v, row[i]) {
-            m += 1;
-        }
+    let mut bits = [0u64; 32];
+    let mut b: u64 = 1;
+    let mut j: usize = 0;
+    while j < 32 {
+        bits[j] = b;
+        b *= 2;
+        j += 1;
     }
-    m
+    bits
 }
 
-// The number of each row, and the same mark for each, into the first places of `kept` and `marks`.
-pub fn every_row(kept: &mut [u16], marks: &mut [u32], rows: usize, mark: u32)
-    requires { ⌜ (rows ≤ 4096) × (rows ≤ length (now kept)) × (rows ≤ length (now marks)) ⌝ }
-    ensures { λ _. ⌜ (take rows (now (kept .exit)) ≡ tabulate rows (λ g. g)) × (take rows (now (marks .exit)) ≡ replicate rows mark) ⌝ }
+// A bit where x passes, and none where it does not.
+fn bit_where(b: u64, above: bool, v: f64, x: f64) -> u64
+    ensures { λ r. ⌜ r ≡ bit (passes above v x) * b ⌝ }
+{
+    if passes(above, v, x) {
+        return b;
+    }
+    0
+}
+
+// The columns of a row whose value passes. A sum of words as wide as the values: then the loop takes several columns at a time.
+fn row_mask(row: &[f64], bits: &[u64], above: bool, v: f64) -> u32
+    requires { ⌜ (length (now row) ≤ 32) × (now bits ≡ tabulate 32 (λ j. 2 ^ j)) ⌝ }
+    ensures { λ r. ⌜ r ≡ markOf (λ x. passes above v x) (now (row .entry)) ⌝ }
+{
+    let mut m: u64 = 0;
+    let mut i: usize = 0;
+    while i < row.len() {
+        m += bit_where(bits[i], above, v, row[i]);
+        i += 1;
+    }
+    m as u32
+}
+
+// The number of each row, into the first places of `kept`.
+fn every_row(kept: &mut [u16], rows: usize)
+    requires { ⌜ (rows ≤ 4096) × (rows ≤ length (now kept)) ⌝ }
+    ensures { λ _. ⌜ take rows (now (kept .exit)) ≡ tabulate rows (λ g. g) ⌝ }
 {
     let mut g: usize = 0;
     while g < rows {
         kept[g] = g as u16;
-        marks[g] = mark;
         g += 1;
     }
 }
@@ -122,13 +141,14 @@ pub fn mark(
     requires { ⌜ CheckedTable (now table) rows columns k × (n ≤ length (now kept)) × (n ≤ length (now marks)) × T (all (λ g. ltb g rows) (take n (now kept))) ⌝ }
     ensures { λ r. ⌜ (r ≤ n) × (take r (now (kept .exit)) ≡ rowsKept k (λ x. passes above v x) (rowsOf rows columns (now (table .entry))) (take n (now (kept .entry)))) × (take r (now (marks .exit)) ≡ marksAt (λ x. passes above v x) (rowsOf rows columns (now (table .entry))) (take r (now (kept .exit)))) ⌝ }
 {
+    let bits = bits();
     let mut m: usize = 0;
     let mut i: usize = 0;
     while i < n {
         let g = kept[i];
         let a = (g as usize) * columns;
         let e = a + columns;
-        let x = row_mask(&table[a..e], above, v);
+        let x = row_mask(&table[a..e], &bits, above, v);
         kept[m] = g;
         marks[m] = x;
         if has_at_least(x, k) {
@@ -151,8 +171,8 @@ pub fn mark_all(
     v: f64,
 ) -> usize
     requires { ⌜ CheckedTable (now table) rows columns k × (rows ≤ length (now kept)) × (rows ≤ length (now marks)) ⌝ }
-    ensures { λ r. ⌜ (r ≤ rows) × (take r (now (marks .exit)) ≡ marksOf k (λ x. passes above v x) (rowsOf rows columns (now (table .entry)))) ⌝ }
+    ensures { λ r. ⌜ (r ≤ rows) × (take r (now (kept .exit)) ≡ rowsKept k (λ x. passes above v x) (rowsOf rows columns (now (table .entry))) (tabulate rows (λ g. g))) × (take r (now (marks .exit)) ≡ marksAt (λ x. passes above v x) (rowsOf rows columns (now (table .entry))) (take r (now (kept .exit)))) ⌝ }
 {
-    every_row(kept, marks, rows, 0);
+    every_row(kept, rows);
     mark(table, kept, marks, rows, rows, columns, k, above, v)
 }

@@ -2,17 +2,17 @@
 --   better-append       of two lists, one after the other
 --   better-stays        no set of a list gives a larger value
 --   better-taken        the next set gives a larger one
---   bestOf, better-value     the value alone
+--   better-value        the value alone
 use mathlib.Core.Path.{_≡_, refl, sym, ap, _∙_}
 use mathlib.Core.Bool.{Bool, true, false, not, cond}
 use mathlib.Core.List.{List, [], _∷_, _++_, map}
 use lib.Dec.{T}
 use lib.Ieee.{Float}
-use Rattle.order.specs.Order.{smaller, larger}
+use Rattle.order.specs.Order.{smaller}
 use Rattle.order.specs.Counting.{all}
 use Rattle.order.proofs.Booleans.{and-left, and-right}
 use Rattle.columns.specs.Columns.{Columns, maskOf}
-use Rattle.putback.specs.Internal.{Best, better}
+use Rattle.putback.specs.Internal.{Best, better, bestOf}
 
 module _ (f : Columns → Float) where
   -- with one set more
@@ -37,10 +37,6 @@ module _ (f : Columns → Float) where
   pub better-taken : (b : Best) (K : Columns) → smaller (b .value) (f K) ≡ true → better f b (K ∷ []) ≡ record { value = f K; set = maskOf K }
   unfolding better
   better-taken b K e = ap (λ (d : Bool). cond d (record { value = f K; set = maskOf K }) b) e
-
-unfoldable pub bestOf : Float → List Float → Float
-bestOf b [] = b
-bestOf b (c ∷ cs) = bestOf (larger b c) cs
 
 pub better-value : (f : Columns → Float) (b : Best) (Ks : List Columns) → better f b Ks .value ≡ bestOf (b .value) (map f Ks)
 unfolding better bestOf

@@ -4,7 +4,6 @@
 --   sets-all                 the whole walk
 --   next-fits, chosen-fits   the next column is there, and the set with it fits
 --   at-with, at-without      what holds of the next branches; rest-falls: they have less left
---   columns-enough           a choice needs k columns in all
 --   unite-fits, unite-lt     the mask of all columns of a branch fits
 --   member, sets-each        what holds of the set of each choice holds of all sets
 use Prim.Native.Nat.{ℕ, zero, suc, _+_, _-_, _*_, _/_, _%_, _^_, _≤_, _<_}
@@ -19,7 +18,7 @@ use lib.Pow.{pow-mono}
 use Rattle.order.specs.Counting.{bit, count, all}
 use Rattle.order.proofs.Counts.{all-map}
 use Rattle.columns.specs.Columns.{Columns, size, _∪_, choose, columnsOf, maskOf}
-use Rattle.columns.proofs.Sets.{_⊆_, none, more, has, ⊆-at, ⊆-length, size-length, length-∪}
+use Rattle.columns.proofs.Sets.{_⊆_, none, more, has, ⊆-at, ⊆-length, length-∪}
 use Rattle.columns.proofs.PutBack.{choose-sound}
 use Rattle.columns.proofs.Masks.{columnsOf-length, columnsOf-maskOf, maskOf-columnsOf, maskOf-lt}
 use Rattle.masks.specs.Internal.{Walk}
@@ -163,10 +162,6 @@ module _ {cols k : ℕ} {b : Branch} (a : At cols k b) where
 
   joined-length : (I : Columns) → length I ≡ length R → length (joinAt S (b .from) I) ≡ cols
   joined-length I h = length-∪ S (replicate (b .from) false ++ I) (omega (arith, rooms, moved-length (b .from) I)) ∙ columnsOf-length cols (b .set)
-
-  -- a choice needs k columns in all
-  pub columns-enough : b .left ≤ size (columnsOf (cols - b .from) (b .rest)) → k ≤ cols
-  columns-enough h = omega (arith, a .many, h, join-size S (b .from) R rooms parted, size-length (joinAt S (b .from) R), joined-length R refl)
 
   pub unite-lt : unite b < 2 ^ cols
   unite-lt = subst (λ (m : ℕ). m < 2 ^ cols) unite-mask (subst (λ (n : ℕ). maskOf (joinAt S (b .from) R) < 2 ^ n) (joined-length R refl) (maskOf-lt (joinAt S (b .from) R)))

@@ -2,5 +2,5 @@ pub mod Better
 pub mod Branches
 pub mod Pruning
 pub mod Walking
-pub mod Start
+pub mod Beginning
 pub mod PutBackValue

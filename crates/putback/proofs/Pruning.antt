@@ -1,14 +1,14 @@
 -- What one look at the marks tells of a set, and of all sets of a branch.
 --   kept-inside, marks-few    the marked rows are rows of the table
 --   leaf-held, leaf-risen     a set that no more than e rows exceed, and one that more do
---   risen                     what holds once the rows are marked by its value
+--   still-going, risen        what holds where the value stays, and once the rows are marked by its value
 --   pruned                    a branch none of whose sets can rise
---   hopeless-one, hopeless-set, hopeless-all     the test by its parts; unite-is, unite-room, rest-room: the mask of all columns as it is made
+--   hopeless-set, hopeless-all     the test by its parts; unite-is, unite-room, rest-room: the mask of all columns as it is made
 use Prim.Native.Nat.{ℕ, _+_, _-_, _*_, _^_, _≤_, _<_}
 use native.Mathlib.Omega.{arith}
 use mathlib.Core.Path.{_≡_, refl, sym, ap, ap₂, _∙_, subst}
 use mathlib.Core.Logic.{_⊎_, inl, inr, ⊎-elim}
-use mathlib.Core.Bool.{Bool, true, false, not, _&&_, _||_}
+use mathlib.Core.Bool.{Bool, true, false, not, _||_}
 use mathlib.Core.List.{List, [], _∷_}
 use lib.ListN.{length, take, drop}
 use lib.Dec.{T, ltb, leb, leb→le}
@@ -66,6 +66,9 @@ module _ {t : List Float} {f : Figures} {work : List Float} {kept marks : List �
       (omega (arith, q, marked-columns (f .columns) (f .k) X sound (g .ready .cols-most) (g .marked) K l))
 
   module _ (s : ℕ) (inside : s < 2 ^ f .columns) (wide : f .k ≤ size (columnsOf (f .columns) s)) (x : ℕ) (counted : x ≡ holding (f .k) s (take (h .n) marks)) where
+    pub still-going : Going t f work kept marks (record { value = h .value; set = h .set; n = h .n; risen = false })
+    still-going = record { ready = g .ready; rare = g .rare; work-room = g .work-room; kept-room = g .kept-room; marks-room = g .marks-room; few = g .few; marked = g .marked }
+
     pub leaf-held : x ≤ f .e → best h ≡ better (λ K. criticalValue (f .k) (f .e) (rowsOf (f .rows) (f .columns) t) K) (best h) (columnsOf (f .columns) s ∷ [])
     unfolding all
     leaf-held q = sym (better-stays c (best h) (columnsOf (f .columns) s ∷ []) (rw (stays (columnsOf (f .columns) s) (columnsOf-length (f .columns) s) wide
@@ -83,7 +86,7 @@ module _ {t : List Float} {f : Figures} {work : List Float} {kept marks : List �
       pub risen : (v : Float) (m : ℕ) (work′ : List Float) (kept′ marks′ : List ℕ) → v ≡ criticalValue (f .k) (f .e) (rowsOf (f .rows) (f .columns) t) (columnsOf (f .columns) s)
           → length work′ ≡ length work → length kept′ ≡ length kept → length marks′ ≡ length marks → m ≤ h .n
           → take m kept′ ≡ rowsKept (f .k) (λ x. passes true v x) (rowsOf (f .rows) (f .columns) t) (take (h .n) kept) → take m marks′ ≡ marksAt (λ x. passes true v x) (rowsOf (f .rows) (f .columns) t) (take m kept′)
-          → Going t f work′ kept′ marks′ (record { value = v; set = s; n = m })
+          → Going t f work′ kept′ marks′ (record { value = v; set = s; n = m; risen = true })
       risen v m work′ kept′ marks′ e a b d l r z = record {
         ready = g .ready;
         rare = g .rare;
@@ -97,17 +100,13 @@ module _ {t : List Float} {f : Figures} {work : List Float} {kept marks : List �
       }
 
   -- by the columns of `set` alone, and by all columns of the branch
-  pub pruned : (b : Branch) → At (f .columns) (f .k) b → hopelessIn (f .k) (f .e) (take (h .n) marks) b ≡ true → best h ≡ better (λ K. criticalValue (f .k) (f .e) (rowsOf (f .rows) (f .columns) t) K) (best h) (setsOf (f .columns) b)
+  pub pruned : (b : Branch) → At (f .columns) (f .k) b → T (hopelessIn (f .k) (f .e) (take (h .n) marks) b) → best h ≡ better (λ K. criticalValue (f .k) (f .e) (rowsOf (f .rows) (f .columns) t) K) (best h) (setsOf (f .columns) b)
   unfolding hopelessIn
-  pruned b a e = sym (better-stays c (best h) (setsOf (f .columns) b) (sets-each a (λ K. not (smaller (h .value) (c K))) (λ K m. falls K m (either (leb (holding (f .k - b .left) (b .set) ms) (f .e)) (leb (holding (f .k) (unite b) ms) (f .e)) (second (leb 2 (b .left)) e)))))
+  pruned b a e = sym (better-stays c (best h) (setsOf (f .columns) b) (sets-each a (λ K. not (smaller (h .value) (c K))) (λ K m. falls K m (either (leb (holding (f .k - b .left) (b .set) ms) (f .e)) (leb (holding (f .k) (unite b) ms) (f .e)) e))))
     where
-      second : (x : Bool) {y : Bool} → (x && y) ≡ true → y ≡ true
-      second true q = q
-      second false q = absurd (subst (λ (z : Bool). T (not z)) q tt)
-
-      either : (x y : Bool) → (x || y) ≡ true → T x ⊎ T y
+      either : (x y : Bool) → T (x || y) → T x ⊎ T y
       either true y q = inl tt
-      either false y q = inr (subst (λ (z : Bool). T z) (sym q) tt)
+      either false y q = inr q
 
       by-set : (K : Columns) → Member a K → T (leb (holding (f .k - b .left) (b .set) ms) (f .e)) → holdingColumns (f .k) K ms ≤ f .e
       by-set K m q = omega (
@@ -131,22 +130,14 @@ module _ {t : List Float} {f : Figures} {work : List Float} {kept marks : List �
 
 -- ---- the test by its parts
 
-module _ (k e : ℕ) (ms : List ℕ) (b : Branch) where
-  pub hopeless-one : b .left < 2 → false ≡ hopelessIn k e ms b
+module _ (k e : ℕ) (ms : List ℕ) (b : Branch) (x : ℕ) (counted : x ≡ holding (k - b .left) (b .set) ms) where
+  pub hopeless-set : x ≤ e → true ≡ hopelessIn k e ms b
   unfolding hopelessIn
-  hopeless-one h = sym (ap (λ (x : Bool). x && (leb (holding (k - b .left) (b .set) ms) e || leb (holding k (unite b) ms) e)) (lt-leb 2 (b .left) h))
+  hopeless-set h = simp (le-leb (holding (k - b .left) (b .set) ms) e (omega (arith, counted)))
 
-  module _ (two : 2 ≤ b .left) (x : ℕ) (counted : x ≡ holding (k - b .left) (b .set) ms) where
-    tested : leb 2 (b .left) ≡ true
-    tested = le-leb 2 (b .left) two
-
-    pub hopeless-set : x ≤ e → true ≡ hopelessIn k e ms b
-    unfolding hopelessIn
-    hopeless-set h = simp (tested, le-leb (holding (k - b .left) (b .set) ms) e (omega (arith, counted)))
-
-    pub hopeless-all : e < x → (y m : ℕ) → m ≡ unite b → y ≡ holding k m ms → leb y e ≡ hopelessIn k e ms b
-    unfolding hopelessIn
-    hopeless-all h y m u q = simp (tested, lt-leb (holding (k - b .left) (b .set) ms) e (omega (arith, counted, h))) (ap (λ (z : ℕ). leb z e) (q ∙ ap (λ (z : ℕ). holding k z ms) u))
+  pub hopeless-all : e < x → (y m : ℕ) → m ≡ unite b → y ≡ holding k m ms → leb y e ≡ hopelessIn k e ms b
+  unfolding hopelessIn
+  hopeless-all h y m u q = simp (lt-leb (holding (k - b .left) (b .set) ms) e (omega (arith, counted, h))) (ap (λ (z : ℕ). leb z e) (q ∙ ap (λ (z : ℕ). holding k z ms) u))
 
 pub unite-is : (b : Branch) (v : ℕ) → v ≡ 2 ^ (b .from) → b .set + b .rest * v ≡ unite b
 unite-is b v e = ap (λ (z : ℕ). b .set + b .rest * z) e

@@ -1,30 +1,35 @@
--- The largest of critical values, met one by one from minus infinity on, is the put-back critical value.
+-- The largest of critical values, met one by one.
+--   same-best, risen-best     from any bound that it is above, and from minus infinity
+--   put-back-value    the put-back critical value; one-value, one-left: of one set
 use Prim.Native.Nat.{ℕ, zero, suc, _+_, _-_, _≤_, _<_}
 use native.Mathlib.Omega.{arith}
-use mathlib.Core.Path.{_≡_, refl, sym, ap, ap₂, _∙_}
+use mathlib.Core.Path.{_≡_, refl, sym, ap, _∙_, subst}
 use mathlib.Core.Bool.{Bool, true, false, cond}
 use mathlib.Core.List.{List, [], _∷_, map}
 use lib.ListN.{length, length-map}
-use lib.Dec.{T, ltb}
+use lib.Dec.{T, ltb, ltb→lt}
 use lib.Ieee.{Float, inf}
 use borrow.Author.Tests.{ltb-true, ltb-false, lt-ltb, le-ltb}
 use Rattle.order.specs.Order.{finite, low, smaller, larger, withPlusZero}
 use Rattle.order.specs.Counting.{bit, count, all}
 use Rattle.order.specs.Lists.{rowsOf}
-use Rattle.order.proofs.Booleans.{and-left, and-right}
+use Rattle.order.proofs.Booleans.{and-left, and-right, and-both, true-T}
+use Rattle.order.proofs.Counts.{count-length}
 use Rattle.order.proofs.Infinities.{finite-low, low-finite, smaller-low}
 use Rattle.order.proofs.Keys.{key, key-some}
-use Rattle.order.proofs.Rows.{Finite, rowsOf-sound, Sound}
+use Rattle.order.proofs.Rows.{Finite, Sound, rowsOf-sound}
+use Rattle.select.specs.Rank.{kthLargest}
 use Rattle.select.proofs.Ranks.{above, from, kthLargest-is, mthSmallest-plain}
-use Rattle.columns.specs.Columns.{Columns, size, _∪_, choose, columnsOf, maskOf}
+use Rattle.columns.specs.Columns.{Columns, size, _∪_, choose, columnsOf}
 use Rattle.columns.proofs.PutBack.{choose-some}
 use Rattle.method.specs.Method.{kMax, criticalValue, putBack}
-use Rattle.method.proofs.Critical.{sets-finite, criticalValue-finite}
+use Rattle.method.proofs.Critical.{criticalValue-finite}
 use Rattle.masks.specs.Internal.{CheckedTable}
-use Rattle.putback.specs.Internal.{Best, better, setsOf}
-use Rattle.putback.proofs.Better.{bestOf, better-value, better-taken}
+use Rattle.putback.specs.Internal.{bestOf, setsOf}
+use Rattle.putback.specs.declared.branch.Branch.{Branch}
 use Rattle.putback.proofs.Branches.{sets-all, sets-leaf}
-use Rattle.putback.proofs.Start.{lowest-below}
+
+-- ---- the larger of two
 
 -- what holds of both holds of the larger
 larger-holds : (P : Float → Type 0) (b c : Float) → P b → P c → P (larger b c)
@@ -33,11 +38,6 @@ larger-holds P b c p q = go (smaller b c)
     go : (t : Bool) → P (cond t c b)
     go true = q
     go false = p
-
-best-holds : {A : Type 0} (P : Float → Type 0) (f : A → Float) (b : Float) (l : List A) → P b → ((x : A) → P (f x)) → P (bestOf b (map f l))
-unfolding bestOf
-best-holds P f b [] p h = p
-best-holds P f b (x ∷ l) p h = best-holds P f (larger b (f x)) l (larger-holds P b (f x) p (h x)) h
 
 larger-key : (b c : Float) → T (low b) → T (finite c) → (v : ℕ) → bit (ltb v (key (larger b c))) ≤ bit (ltb v (key b)) + bit (ltb v (key c))
 larger-key b c l f v = go (smaller b c)
@@ -75,96 +75,131 @@ best-reached b (c ∷ cs) v l fs h =
     let f = and-left (finite c) (all finite cs) fs in
     omega (arith, best-reached (larger b c) cs v (larger-low b c l f) (and-right (finite c) (all finite cs) fs) h, larger-key b c l f v)
 
--- every finite value is above minus infinity's key
-all-above : (cs : List Float) → Finite cs → above 0 cs ≡ length cs
-unfolding count all
-all-above [] fs = refl
-all-above (c ∷ cs) fs = omega (arith, ap bit (lt-ltb 0 (key c) (key-some c (and-left (finite c) (all finite cs) fs))), all-above cs (and-right (finite c) (all finite cs) fs))
+-- ---- the largest of a list
 
-module _ (n k e : ℕ) (X : List (List Float)) (s : Sound n X) (A R : Columns) (some : k - 1 ≤ size R) where
-  f : Columns → Float
-  f I = criticalValue k e X (A ∪ I)
+-- minus infinity is below every finite value
+lowest-below : (x : Float) → T (finite x) → smaller (inf true) x ≡ true
+unfolding key
+lowest-below x f = smaller-low (inf true) x tt (finite-low x f) ∙ lt-ltb 0 (key x) (key-some x f)
 
-  cs : List Float
-  cs = map f (choose (k - 1) R)
+module _ {A : Type 0} (f : A → Float) where
+  best-holds : (P : Float → Type 0) (b : Float) (l : List A) → P b → ((x : A) → P (f x)) → P (bestOf b (map f l))
+  unfolding bestOf
+  best-holds P b [] p h = p
+  best-holds P b (x ∷ l) p h = best-holds P (larger b (f x)) l (larger-holds P b (f x) p (h x)) h
 
-  fs : Finite cs
-  unfolding cs f
-  fs = sets-finite n k e X s A R
-
-  filled : 0 < length cs
-  unfolding cs
-  filled = omega (arith, length-map (choose (k - 1) R) f, choose-some (k - 1) R some)
-
-  best : Float
-  best = bestOf (inf true) cs
-
-  least : above (key best) cs ≡ 0
-  unfolding best
-  least = best-least (inf true) cs tt fs .1
-
-  -- a value that none of some finite values is above is itself above minus infinity
-  best-some : 0 < key best
-  best-some = go (key best) least
+  -- where it is above the bound it is a member
+  best-member : (P : Float → Type 0) (b : Float) (l : List A) → key b < key (bestOf b (map f l)) → ((x : A) → P (f x)) → P (bestOf b (map f l))
+  unfolding bestOf
+  best-member P b [] r h = absurd (omega arith)
+  best-member P b (x ∷ l) r h = go (smaller b (f x)) r (λ q. best-member P b l q h)
     where
-      go : (m : ℕ) → above m cs ≡ 0 → 0 < m
-      go zero e = absurd (omega (arith, all-above cs fs, filled))
-      go (suc m) e = omega arith
+      go : (t : Bool) → key b < key (bestOf (cond t (f x) b) (map f l)) → (key b < key (bestOf b (map f l)) → P (bestOf b (map f l))) → P (bestOf (cond t (f x) b) (map f l))
+      go true r ih = best-holds P (f x) l (h x) h
+      go false r ih = ih r
 
-  best-plain : withPlusZero best ≡ best
-  unfolding best cs f criticalValue withPlusZero
-  best-plain = best-holds (λ x. withPlusZero x ≡ x) f (inf true) (choose (k - 1) R) refl (λ I. mthSmallest-plain (length X - e) (map (λ row. kMax k (A ∪ I) row) X))
+  all-finite : ((x : A) → T (finite (f x))) → (l : List A) → Finite (map f l)
+  unfolding all
+  all-finite h [] = tt
+  all-finite h (x ∷ l) = and-both (finite (f x)) (all finite (map f l)) (h x) (all-finite h l)
 
-  best-lowly : T (low best)
-  unfolding best cs f
-  best-lowly = best-holds (λ x. T (low x)) f (inf true) (choose (k - 1) R) tt (λ I. finite-low (criticalValue k e X (A ∪ I)) (criticalValue-finite n k e X (A ∪ I) s))
+  -- of some values it is above minus infinity
+  lowest-under : ((x : A) → T (finite (f x))) → (l : List A) → 0 < length (map f l) → key (inf true) < key (bestOf (inf true) (map f l))
+  unfolding bestOf key
+  lowest-under h [] p = absurd (omega arith)
+  lowest-under h (x ∷ l) p = omega (
+    arith,
+    key-some (f x) (h x),
+    larger-least (inf true) (f x) tt (h x) .1,
+    best-least (larger (inf true) (f x)) (map f l) (larger-low (inf true) (f x) tt (h x)) (all-finite h l) .0,
+  )
 
-  reach : (m : ℕ) → m < key best → 1 ≤ above m cs
-  unfolding best key
-  reach m h = omega (arith, best-reached (inf true) cs m tt fs h, ap bit (le-ltb m 0 (omega arith)))
+  module _ (fin : (x : A) → T (finite (f x))) (plain : (x : A) → withPlusZero (f x) ≡ f x) (l : List A) where
+    fs : Finite (map f l)
+    fs = all-finite fin l
 
-  reached : 1 ≤ from (key best) cs
-  reached = go (key best) best-some refl
+    best-largest : (b : Float) → T (low b) → key b < key (bestOf b (map f l)) → bestOf b (map f l) ≡ kthLargest 1 (map f l)
+    best-largest b w r = kthLargest-is 1 (map f l) fs (omega arith) filled (bestOf b (map f l)) (record {
+      finitely = best-member (λ x. T (finite x)) b l r fin;
+      plain = best-member (λ x. withPlusZero x ≡ x) b l r plain;
+      few = omega (arith, best-least b (map f l) w fs .1);
+      enough = enough (key (bestOf b (map f l))) refl;
+    })
+      where
+        reach : (m : ℕ) → key b ≤ m → m < key (bestOf b (map f l)) → 1 ≤ above m (map f l)
+        reach m h g = omega (arith, best-reached b (map f l) m w fs g, ap bit (le-ltb m (key b) h))
+
+        filled : 1 ≤ length (map f l)
+        filled = omega (arith, reach (key b) (omega arith) r, count-length (λ x. ltb (key b) (key x)) (map f l))
+
+        enough : (m : ℕ) → key (bestOf b (map f l)) ≡ m → 1 ≤ from m (map f l)
+        enough zero q = absurd (omega (arith, r))
+        enough (suc m) q = reach m (omega (arith, r)) (omega arith)
+
+    -- the bound makes no difference
+    pub same-best : (b : Float) → T (low b) → T (smaller b (bestOf b (map f l))) → bestOf b (map f l) ≡ bestOf (inf true) (map f l)
+    same-best b w t = best-largest b w rises ∙ sym (best-largest (inf true) tt (lowest-under fin l (above-some rises)))
+      where
+        rises : key b < key (bestOf b (map f l))
+        rises = ltb→lt (key b) (key (bestOf b (map f l))) (subst (λ (d : Bool). T d) (smaller-low b (bestOf b (map f l)) w (best-holds (λ x. T (low x)) b l w (λ x. finite-low (f x) (fin x)))) t)
+
+        above-some : key b < key (bestOf b (map f l)) → 0 < length (map f l)
+        above-some r = omega (arith, best-reached b (map f l) (key b) w fs r, ap bit (le-ltb (key b) (key b) (omega arith)), count-length (λ x. ltb (key b) (key x)) (map f l))
+
+    pub largest-is : 0 < length (map f l) → bestOf (inf true) (map f l) ≡ kthLargest 1 (map f l)
+    largest-is h = best-largest (inf true) tt (lowest-under fin l h)
+
+-- ---- critical values
+
+module _ (n k e : ℕ) (X : List (List Float)) (sound : Sound n X) where
+  abbrev c : Columns → Float
+  c K = criticalValue k e X K
+
+  pub values-finite : (K : Columns) → T (finite (criticalValue k e X K))
+  values-finite K = criticalValue-finite n k e X K sound
+
+  pub values-plain : (K : Columns) → withPlusZero (criticalValue k e X K) ≡ criticalValue k e X K
+  unfolding criticalValue
+  values-plain K = mthSmallest-plain (length X - e) (map (λ row. kMax k K row) X)
+
+-- ---- a checked table
+
+module _ {t : List Float} {rows cols k : ℕ} (e : ℕ) (r : CheckedTable t rows cols k) where
+  sound : Sound cols (rowsOf rows cols t)
+  sound = rowsOf-sound rows cols t (r .full) (r .finitely)
+
+  -- from a bound below it, and from minus infinity
+  pub risen-best : (b : Branch) (v : Float) {x : Float} → T (low v) → smaller v x ≡ true → x ≡ bestOf v (map (λ K. criticalValue k e (rowsOf rows cols t) K) (setsOf cols b)) → x ≡ bestOf (inf true) (map (λ K. criticalValue k e (rowsOf rows cols t) K) (setsOf cols b))
+  risen-best b v w g q = q ∙ same-best (λ K. criticalValue k e (rowsOf rows cols t) K) (values-finite cols k e (rowsOf rows cols t) sound) (values-plain cols k e (rowsOf rows cols t) sound) (setsOf cols b) v w
+      (subst (λ (y : Float). T (smaller v y)) q (true-T (smaller v _) g))
+
+  pub put-back-value : (remaining rejected : ℕ) {x : Float} → k - 1 ≤ size (columnsOf cols rejected)
+      → x ≡ bestOf (inf true) (map (λ K. criticalValue k e (rowsOf rows cols t) K) (setsOf cols (record { set = remaining; rest = rejected; from = 0; left = k - 1 })))
+      → x ≡ putBack k e (rowsOf rows cols t) (columnsOf cols remaining) (columnsOf cols rejected)
+  unfolding putBack
+  put-back-value remaining rejected some q =
+      q ∙ ap (λ (Ks : List Columns). bestOf (inf true) (map (λ K. criticalValue k e X K) Ks)) (sets-all cols remaining rejected (k - 1))
+      ∙ ap (bestOf (inf true)) (map-map (λ K. criticalValue k e X K) (λ I. columnsOf cols remaining ∪ I) (choose (k - 1) (columnsOf cols rejected)))
+      ∙ largest-is (λ I. criticalValue k e X (columnsOf cols remaining ∪ I)) (λ I. values-finite cols k e X sound (columnsOf cols remaining ∪ I)) (λ I. values-plain cols k e X sound (columnsOf cols remaining ∪ I)) (choose (k - 1) (columnsOf cols rejected))
+      (omega (arith, length-map (choose (k - 1) (columnsOf cols rejected)) (λ I. criticalValue k e X (columnsOf cols remaining ∪ I)), choose-some (k - 1) (columnsOf cols rejected) some))
     where
-      go : (m : ℕ) → 0 < m → key best ≡ m → 1 ≤ from m cs
-      go zero p q = absurd (omega arith)
-      go (suc m) p q = reach m (omega arith)
+      X : List (List Float)
+      X = rowsOf rows cols t
 
-  pub best-is : bestOf (inf true) (map (λ I. criticalValue k e X (A ∪ I)) (choose (k - 1) R)) ≡ putBack k e X A R
-  unfolding putBack best cs f
-  best-is = kthLargest-is 1 cs fs (omega arith) filled best (record { finitely = low-finite best best-lowly best-some; plain = best-plain; few = omega (arith, least); enough = reached })
+      map-map : {A B C : Type 0} (f : B → C) (e : A → B) (l : List A) → map f (map e l) ≡ map (λ x. f (e x)) l
+      map-map f e [] = refl
+      map-map f e (x ∷ l) = ap (λ m. f (e x) ∷ m) (map-map f e l)
 
--- the walk from column 0 over the rejected columns
-pub put-back-value : (t : List Float) (rows cols k e remaining rejected : ℕ) (b v : Best) → CheckedTable t rows cols k → k - 1 ≤ size (columnsOf cols rejected) → b .value ≡ inf true
-    → v ≡ better (λ K. criticalValue k e (rowsOf rows cols t) K) b (setsOf cols (record { set = remaining; rest = rejected; from = 0; left = k - 1 }))
-    → v .value ≡ putBack k e (rowsOf rows cols t) (columnsOf cols remaining) (columnsOf cols rejected)
-put-back-value t rows cols k e remaining rejected b v ready some low q =
-    ap (λ (x : Best). x .value) q ∙ better-value (λ K. criticalValue k e (rowsOf rows cols t) K) b _
-    ∙ ap₂ (λ (x : Float) (Ks : List Columns). bestOf x (map (λ K. criticalValue k e (rowsOf rows cols t) K) Ks)) low (sets-all cols remaining rejected (k - 1))
-    ∙ ap (bestOf (inf true)) (map-map (λ K. criticalValue k e (rowsOf rows cols t) K) (λ I. columnsOf cols remaining ∪ I) (choose (k - 1) (columnsOf cols rejected)))
-    ∙ best-is cols k e (rowsOf rows cols t) (rowsOf-sound rows cols t (ready .full) (ready .finitely)) (columnsOf cols remaining) (columnsOf cols rejected) some
-  where
-    map-map : {A B C : Type 0} (f : B → C) (e : A → B) (l : List A) → map f (map e l) ≡ map (λ x. f (e x)) l
-    map-map f e [] = refl
-    map-map f e (x ∷ l) = ap (λ m. f (e x) ∷ m) (map-map f e l)
+  -- nothing put back: one set
+  pub one-value : (set : ℕ) {x : Float} → x ≡ bestOf (inf true) (map (λ K. criticalValue k e (rowsOf rows cols t) K) (setsOf cols (record { set = set; rest = 0; from = 0; left = 0 }))) → x ≡ criticalValue k e (rowsOf rows cols t) (columnsOf cols set)
+  unfolding bestOf
+  one-value set q =
+      q ∙ ap (λ (Ks : List Columns). bestOf (inf true) (map (λ K. criticalValue k e (rowsOf rows cols t) K) Ks)) (sets-leaf cols (record { set = set; rest = 0; from = 0; left = 0 }) (omega arith) refl)
+      ∙ ap (λ (d : Bool). cond d (criticalValue k e (rowsOf rows cols t) (columnsOf cols set)) (inf true)) (lowest-below (criticalValue k e (rowsOf rows cols t) (columnsOf cols set)) (values-finite cols k e (rowsOf rows cols t) sound (columnsOf cols set)))
 
--- with k = 1 there is one set
-pub one-value : (t : List Float) (rows cols k e remaining rejected : ℕ) {x : Float} → CheckedTable t rows cols k → k - 1 ≤ size (columnsOf cols rejected) → k ≡ 1
-    → x ≡ criticalValue k e (rowsOf rows cols t) (columnsOf cols remaining) → x ≡ putBack k e (rowsOf rows cols t) (columnsOf cols remaining) (columnsOf cols rejected)
-one-value t rows cols k e remaining rejected r some one q = q ∙ put-back-value t rows cols k e remaining rejected lowest (record { value = c A; set = maskOf A }) r some refl
-    (sym (better-taken c lowest A above-all) ∙ ap (better c lowest) (sym (sets-leaf cols (record { set = remaining; rest = rejected; from = 0; left = k - 1 }) (omega arith) (omega arith))))
-  where
-    A : Columns
-    A = columnsOf cols remaining
-
-    c : Columns → Float
-    c K = criticalValue k e (rowsOf rows cols t) K
-
-    lowest : Best
-    lowest = record { value = inf true; set = 0 }
-
-    f : T (finite (c A))
-    f = criticalValue-finite cols k e (rowsOf rows cols t) A (rowsOf-sound rows cols t (r .full) (r .finitely))
-
-    above-all : smaller (lowest .value) (c A) ≡ true
-    above-all = lowest-below (c A) f
+  -- with k = 1 the columns left are the one set
+  pub one-left : (remaining rejected : ℕ) {x : Float} → k ≡ 1 → x ≡ criticalValue k e (rowsOf rows cols t) (columnsOf cols remaining) → x ≡ putBack k e (rowsOf rows cols t) (columnsOf cols remaining) (columnsOf cols rejected)
+  unfolding bestOf
+  one-left remaining rejected one q = put-back-value remaining rejected (omega arith)
+      (q ∙ sym (ap (λ (d : Bool). cond d (criticalValue k e (rowsOf rows cols t) (columnsOf cols remaining)) (inf true)) (lowest-below (criticalValue k e (rowsOf rows cols t) (columnsOf cols remaining)) (values-finite cols k e (rowsOf rows cols t) sound (columnsOf cols remaining))))
+      ∙ sym (ap (λ (Ks : List Columns). bestOf (inf true) (map (λ K. criticalValue k e (rowsOf rows cols t) K) Ks)) (sets-leaf cols (record { set = remaining; rest = rejected; from = 0; left = k - 1 }) (omega arith) (omega arith))))

@@ -1,6 +1,7 @@
 -- Definitions that only the inner functions cite. Definitions only; a reader of the promises needs none of them.
 --   Best                 a value, and the mask of the set that gave it
 --   better f b Ks        the best of b and the values f K of some sets, each with its set: strictly larger replaces, equal does not
+--   bestOf b cs          the largest of b and some values
 --   setsOf cols b        the sets of a branch, in the order of the walk
 --   with, without b      the branches in which the next column is chosen, and in which it is passed over
 --   unite b              the mask of all columns of a branch
@@ -9,12 +10,12 @@
 --   best h               what is held, without the number of marked rows
 --   Going t f work kept marks h     what holds of a table, of the buffers and of what is held
 use Prim.Native.Nat.{ℕ, _+_, _-_, _*_, _/_, _^_, _≤_, _<_}
-use mathlib.Core.Bool.{Bool, false, cond, _&&_, _||_}
+use mathlib.Core.Bool.{Bool, false, cond, _||_}
 use mathlib.Core.List.{List, [], _∷_, _++_, map}
 use lib.Dec.{leb}
 use lib.ListN.{length, take, replicate}
 use lib.Ieee.{Float}
-use Rattle.order.specs.Order.{smaller}
+use Rattle.order.specs.Order.{smaller, larger}
 use Rattle.order.specs.Lists.{rowsOf}
 use Rattle.columns.specs.Columns.{Columns, size, _∪_, choose, columnsOf, maskOf}
 use Rattle.masks.specs.Internal.{CheckedTable, Walk}
@@ -35,6 +36,10 @@ unfolding maskOf
 better f b [] = b
 better f b (K ∷ Ks) = better f (cond (smaller (b .value) (f K)) (record { value = f K; set = maskOf K }) b) Ks
 
+unfoldable pub bestOf : Float → List Float → Float
+bestOf b [] = b
+bestOf b (c ∷ cs) = bestOf (larger b c) cs
+
 -- ---- branches
 
 unfoldable pub setsOf : ℕ → Branch → List Columns
@@ -50,10 +55,9 @@ without b = record { set = b .set; rest = b .rest / 2; from = b .from + 1; left 
 abbrev pub unite : Branch → ℕ
 unite b = b .set + b .rest * 2 ^ (b .from)
 
--- with one column to choose, each set is counted anyway
 unfoldable pub hopelessIn : ℕ → ℕ → List ℕ → Branch → Bool
 unfolding holding
-hopelessIn k e ms b = leb 2 (b .left) && (leb (holding (k - b .left) (b .set) ms) e || leb (holding k (unite b) ms) e)
+hopelessIn k e ms b = leb (holding (k - b .left) (b .set) ms) e || leb (holding k (unite b) ms) e
 
 pub record At (cols k : ℕ) (b : Branch) : Type 0 where
   pub walk : Walk cols (b .set) (b .rest) (b .from)

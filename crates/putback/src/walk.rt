@@ -5,17 +5,19 @@ use critical::Figures;
 ghost use mathlib.Core.Path.{_≡_};
 ghost use mathlib.Core.List.{[], _∷_};
 ghost use Prim.Native.Nat.{_<_, _≤_, _^_};
+ghost use lib.Dec.{T};
 ghost use lib.ListN.{length, drop};
 ghost use Rattle.order.specs.Lists.{rowsOf};
 ghost use Rattle.columns.specs.Columns.{size, columnsOf};
 ghost use Rattle.method.specs.Method.{criticalValue};
 ghost use Rattle.putback.specs.Internal.{Going, At, best, better, setsOf, unite, hopelessIn};
 
-// The best value so far, the set that gave it first, and how many rows are marked by it.
+// The best value so far, the set that gave it first, how many rows are marked by it, and whether the last set rose.
 pub struct Held {
     pub value: f64,
     pub set: u32,
     pub n: usize,
+    pub risen: bool,
 }
 
 // The better of what is held and c of the columns of `set`, which is worked out only where it is larger.
@@ -33,7 +35,12 @@ fn leaf(
 {
     let n = held.n;
     if masks::count_holding(&marks[..n], set, f.k) <= f.e {
-        return held;
+        return Held {
+            value: held.value,
+            set: held.set,
+            n,
+            risen: false,
+        };
     }
     let c = critical::raised(table, work, &kept[..n], &marks[..n], f, set, held.value);
     let m = masks::mark(table, kept, marks, n, f.rows, f.columns, f.k, true, c);
@@ -41,23 +48,33 @@ fn leaf(
         value: c,
         set,
         n: m,
+        risen: true,
     }
 }
 
-// Whether two or more columns are to be chosen and no choice can rise: a row counts only if it has all of k but those to be chosen in `set`, and k in all
-// columns together. With one to choose, each set is counted anyway.
+// Whether no set of a branch can rise: a row counts only if it has all of k but those to be chosen in `set`, and k in all columns together.
 fn hopeless(marks: &[u32], f: Figures, b: Branch) -> bool
     requires { ⌜ (f .k ≤ 4) × (b .left < f .k) × (length (now marks) ≤ 4096) × (b .from < 32) × (unite b < 2 ^ 32) ⌝ }
     ensures { λ r. ⌜ r ≡ hopelessIn (f .k) (f .e) (now (marks .entry)) b ⌝ }
 {
-    if b.left < 2 {
-        return false;
-    }
     if masks::count_holding(marks, b.set, f.k - b.left) <= f.e {
         return true;
     }
     let all = b.set + b.rest * masks::bit(b.from);
     masks::count_holding(marks, all, f.k) <= f.e
+}
+
+// Whether a branch is left. With one column to choose each set is counted anyway: then it is asked only where the last set rose.
+fn left_out(marks: &[u32], f: Figures, b: Branch, risen: bool) -> bool
+    requires { ⌜ (f .k ≤ 4) × (b .left < f .k) × (length (now marks) ≤ 4096) × (b .from < 32) × (unite b < 2 ^ 32) ⌝ }
+    ensures { λ r. ⌜ (T r → T (hopelessIn (f .k) (f .e) (now (marks .entry)) b)) ⌝ }
+{
+    if b.left == 1 {
+        if !risen {
+            return false;
+        }
+    }
+    hopeless(marks, f, b)
 }
 
 // The better of what is held and the sets of the branch: one column is chosen and then, with one fewer to choose, later ones.
@@ -84,7 +101,7 @@ pub(crate) fn walk(
         return walk(table, work, kept, marks, f, past, held);
     }
     let n = held.n;
-    if hopeless(&marks[..n], f, b) {
+    if left_out(&marks[..n], f, b, held.risen) {
         return held;
     }
     let chosen = branch::with_next(b);

@@ -28,7 +28,6 @@ fn unrejected(rows: usize, columns: usize) -> [usize; 32]
 // The larger of `figure` and the count that v needs with `passed` passed: `bound`, the count by maxima, is it for k = 1, and no smaller once k are passed.
 fn raised(
     table: &[f64],
-    kept: &mut [u16],
     marks: &mut [u32],
     rows: usize,
     columns: usize,
@@ -39,7 +38,7 @@ fn raised(
     bound: usize,
     figure: usize,
 ) -> usize
-    requires { ⌜ Raising (now table) rows columns k live passed v bound × (rows ≤ length (now kept)) × (rows ≤ length (now marks)) × (length (now marks) ≤ 4096) ⌝ }
+    requires { ⌜ Raising (now table) rows columns k live passed v bound × (rows ≤ length (now marks)) × (length (now marks) ≤ 4096) ⌝ }
     ensures { λ r. ⌜ r ≡ max figure (needed k (rowsOf rows columns (now (table .entry))) (columnsOf columns live) (columnsOf columns passed) v) ⌝ }
 {
     if k == 1 {
@@ -50,7 +49,8 @@ fn raised(
             return figure;
         }
     }
-    let n = masks::mark_all(table, kept, marks, rows, columns, k, false, v);
+    let mut kept = [0u16; TABLE_ROWS_MOST];
+    let n = masks::mark_all(table, &mut kept, marks, rows, columns, k, false, v);
     counting::needed(&marks[..n], columns, k, live, passed, figure)
 }
 
@@ -66,7 +66,6 @@ fn down(
     requires { ⌜ Passable (now table) rows columns k observed live × (k ≤ size (columnsOf columns live)) ⌝ }
     ensures { λ r. ⌜ r ≡ padded 32 0 (kMaxPass k (rowsOf rows columns (now (table .entry))) (columnsOf columns live) observed) ⌝ }
 {
-    let mut kept = [0u16; TABLE_ROWS_MOST];
     let mut ms = [0u32; TABLE_ROWS_MOST];
     let mut figures = unrejected(rows, columns);
     let from = observed * columns;
@@ -82,19 +81,7 @@ fn down(
         let v = table[from + i];
         let b = counts[s];
         if v < last {
-            figure = raised(
-                table,
-                &mut kept,
-                &mut ms,
-                rows,
-                columns,
-                k,
-                live,
-                passed,
-                v,
-                b,
-                figure,
-            );
+            figure = raised(table, &mut ms, rows, columns, k, live, passed, v, b, figure);
             last = v;
         }
         figures[i] = figure;

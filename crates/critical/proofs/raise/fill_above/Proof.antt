@@ -90,7 +90,7 @@ same-length : tie.Need-same-length Inv-loop μ-loop
 same-length c = c .before .loop .inv .7 .as-long
 
 returns : tie.Need-returns Inv-loop μ-loop
-returns c = 
+returns c =
     let l = c .before .loop .inv in
     raised-done _ (l .1) (l .6) (l .7) (c .loop-test .left) (l .0)
 

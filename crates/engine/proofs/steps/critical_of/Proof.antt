@@ -5,27 +5,31 @@ use Rattle.engine.proofs.steps.critical_of.Statement.{statement}
 use Rattle.engine.proofs.steps.critical_of.Tie as tie
 
 critical-value-requires : tie.Need-critical-value-requires
-critical-value-requires c κs = let q = c .before .before .before .before .before .pre in (q .0 .ready, q .1, q .0 .first (c .before .if1 .taken), q .0 .rare)
+critical-value-requires c κs = let q = c .before .before .before .before .before .before .before .pre in (q .0 .ready, q .1, q .0 .rare, q .0 .live-fits, q .0 .first (c .before .before .before .if1 .taken), q .0 .ready .rows-most, q .0 .ready .rows-most)
 
 returns : tie.Need-returns
-returns c = let v = c .before .before in let q = v .before .before .before .before .before .before .pre in (critical-start _ _ (q .0) _ (v .before .before .if1 .taken) (v .critical-value .ensures .0), v .critical-value .ensures .1)
+returns c = let v = c .before .before .before .before .critical-value .ensures in let q = c .before .before .before .before .before .before .before .before .before .before .before .before .pre in (critical-start _ _ (q .0) _ (c .before .before .before .before .before .before .before .before .if1 .taken) (v .0), v .1)
 
 sub-put-back : tie.Need-sub-put-back
-sub-put-back c = let q = c .before .before .before .before .before .before .pre in rejected-under _ _ (q .0)
+sub-put-back c = rejected-under _ _ (c .before .before .before .before .before .before .before .before .pre .0)
 
 put-back-requires : tie.Need-put-back-requires
-put-back-requires c κs = let q = c .before .before .before .before .before .before .pre in (q .0 .ready, q .1, q .0 .rare, walk-start _ _ (q .0), walk-held _ _ (q .0), put-held _ _ (q .0) (c .before .before .if1 .left))
+put-back-requires c κs = let q = c .before .before .before .before .before .before .before .before .pre in (q .0 .ready, q .1, q .0 .rare, walk-start _ _ (q .0), walk-held _ _ (q .0), put-held _ _ (q .0) (c .before .before .before .before .if1 .left), q .0 .ready .rows-most, q .0 .ready .rows-most)
 
 returns-2 : tie.Need-returns-2
-returns-2 c = let v = c .before .before in let q = v .before .before .before .before .before .before .before .pre in (critical-next _ _ (q .0) _ (v .before .before .before .if1 .left) (v .put-back .ensures .0), v .put-back .ensures .1)
+returns-2 c = let v = c .before .before .before .before .put-back .ensures in let q = c .before .before .before .before .before .before .before .before .before .before .before .before .before .pre in (critical-next _ _ (q .0) _ (c .before .before .before .before .before .before .before .before .before .if1 .left) (v .0), v .1)
 
 pub critical-of-spec : {M : Type 1} → statement M
 critical-of-spec =
     tie.close
     (tie.spec
+    (λ c. search needs)
+    (λ c. search needs)
     critical-value-requires
     (λ c. search needs)
     returns
+    (λ c. search needs)
+    (λ c. search needs)
     sub-put-back
     put-back-requires
     (λ c. search needs)

@@ -9,13 +9,14 @@ use borrow.Fn.Kinds.{In}
 use borrow.Fn.PlainCycle.{Measures, is, falls, and}
 use Rattle.putback.proofs.Walking.{leaf-value, none-value, past-value, in-value, past-at, in-at, odd-one}
 use Rattle.putback.proofs.Branches.{next-fits, chosen-fits, unite-fits}
+use Rattle.order.proofs.Booleans.{true-T}
 use Rattle.putback.proofs.Pruning.{marks-few, pruned}
 use Rattle.putback.proofs.walk.walk.Reads as walk
 use Rattle.putback.proofs.walk.walk.Kinds as walk-kinds
 use Rattle.putback.proofs.walk.+walk.Lts-walk as walk-lts
 use Rattle.putback.proofs.branch.with_next.Reads as with-next-reads
 use Rattle.putback.proofs.branch.without_next.Reads as without-next-reads
-use Rattle.putback.proofs.walk.hopeless.Reads as hopeless-reads
+use Rattle.putback.proofs.walk.left_out.Reads as left-out-reads
 use Rattle.putback.proofs.walk.leaf.Reads as leaf-reads
 use Rattle.putback.proofs.walk.+walk.{statement}
 use Rattle.putback.proofs.walk.+walk.Tie.{close}
@@ -32,7 +33,7 @@ walk-below t = and 4 walk-kinds.ps (falls 4 walk-kinds.ps _<_ μ-walk t) walk.Pr
 
 -- what the callees ask and give
 abbrev calls : ℕ → walk-lts.Claims
-calls t = (leaf-reads.Asked, leaf-reads.Learnt, without-next-reads.Asked, without-next-reads.Learnt, walk-below t, walk.Post, hopeless-reads.Asked, hopeless-reads.Learnt, with-next-reads.Asked, with-next-reads.Learnt)
+calls t = (leaf-reads.Asked, leaf-reads.Learnt, without-next-reads.Asked, without-next-reads.Learnt, walk-below t, walk.Post, left-out-reads.Asked, left-out-reads.Learnt, with-next-reads.Asked, with-next-reads.Learnt)
 
 walk-leaf-requires : (t : ℕ) → walk-lts.Need-leaf-requires (calls t) (walk-at t) walk.Post
 walk-leaf-requires t c κs = let q = c .before .before .before .before .before .before .before .before .before .pre .1 in (q .0, q .1 .walk .inside, omega (arith, q .1 .many, c .before .before .before .if1 .taken))
@@ -52,17 +53,17 @@ walk-walk-requires t c κs = let s = c .before .before .before .before .before .
 walk-returns-3 : (t : ℕ) → walk-lts.Need-returns-3 (calls t) (walk-at t) walk.Post
 walk-returns-3 t c = let w = c .before .before .before .before .before .before .walk .ensures in let q = c .before .before .before .before .before .before .before .before .before .before .before .before .before .before .before .before .before .before .before .before .before .pre .1 in (past-value _ _ _ _ (q .1) _ (c .before .before .before .before .before .before .before .before .before .before .before .before .before .before .before .if1 .left) (c .before .before .before .before .before .before .before .before .before .before .before .before .before .if2 .left) _ (c .before .before .before .before .before .before .before .before .before .before .before .before .without-next .ensures) _ (c .before .before .before .before .before .before .before .before .before .before .if3 .taken) (w .0), w .1, w .2)
 
-walk-slice-reshare-prefix-hopeless : (t : ℕ) → walk-lts.Need-slice-reshare-prefix-hopeless (calls t) (walk-at t) walk.Post
-walk-slice-reshare-prefix-hopeless t c = let g = c .before .before .before .before .before .before .before .before .before .before .before .pre .1 .0 in omega (arith, g .few, g .marks-room)
+walk-slice-reshare-prefix-left-out : (t : ℕ) → walk-lts.Need-slice-reshare-prefix-left-out (calls t) (walk-at t) walk.Post
+walk-slice-reshare-prefix-left-out t c = let g = c .before .before .before .before .before .before .before .before .before .before .before .pre .1 .0 in omega (arith, g .few, g .marks-room)
 
-walk-slice-aggregate-hopeless : (t : ℕ) → walk-lts.Need-slice-aggregate-hopeless (calls t) (walk-at t) walk.Post
-walk-slice-aggregate-hopeless t c = let s = c .before .before .before .before .before .before .before .before .before .before .before .before in sym (length-take-le (s .args .held .n) (s .args .marks .now) (omega (arith, s .pre .1 .0 .few, s .pre .1 .0 .marks-room)))
+walk-slice-aggregate-left-out : (t : ℕ) → walk-lts.Need-slice-aggregate-left-out (calls t) (walk-at t) walk.Post
+walk-slice-aggregate-left-out t c = let s = c .before .before .before .before .before .before .before .before .before .before .before .before in sym (length-take-le (s .args .held .n) (s .args .marks .now) (omega (arith, s .pre .1 .0 .few, s .pre .1 .0 .marks-room)))
 
-walk-hopeless-requires : (t : ℕ) → walk-lts.Need-hopeless-requires (calls t) (walk-at t) walk.Post
-walk-hopeless-requires t c κs = let q = c .before .before .before .before .before .before .before .before .before .before .before .before .pre .1 in (q .0 .ready .k-most, q .1 .fewer, marks-few (q .0), omega (arith, next-fits (q .1) (c .before .before .before .before .if2 .left), q .0 .ready .cols-most), unite-fits (q .1) (q .0 .ready .cols-most))
+walk-left-out-requires : (t : ℕ) → walk-lts.Need-left-out-requires (calls t) (walk-at t) walk.Post
+walk-left-out-requires t c κs = let q = c .before .before .before .before .before .before .before .before .before .before .before .before .pre .1 in (q .0 .ready .k-most, q .1 .fewer, marks-few (q .0), omega (arith, next-fits (q .1) (c .before .before .before .before .if2 .left), q .0 .ready .cols-most), unite-fits (q .1) (q .0 .ready .cols-most))
 
 walk-returns-4 : (t : ℕ) → walk-lts.Need-returns-4 (calls t) (walk-at t) walk.Post
-walk-returns-4 t c = let q = c .before .before .before .before .before .before .before .before .before .before .before .before .before .before .pre .1 in (pruned (q .0) _ (q .1) (sym (c .before .hopeless .ensures) ∙ c .if4 .taken), refl, q .0)
+walk-returns-4 t c = let q = c .before .before .before .before .before .before .before .before .before .before .before .before .before .before .pre .1 in (pruned (q .0) _ (q .1) (c .before .left-out .ensures (true-T _ (c .if4 .taken))), refl, q .0)
 
 walk-with-next-requires : (t : ℕ) → walk-lts.Need-with-next-requires (calls t) (walk-at t) walk.Post
 walk-with-next-requires t c κs = let q = c .before .before .before .before .before .before .before .before .before .before .before .before .before .before .pre .1 in let i = c .before .before .before .before .before .before .if2 .left in (omega (arith, next-fits (q .1) i, q .0 .ready .cols-most), chosen-fits (q .1) i (odd-one _ (c .before .before .before .if3 .left)) (q .0 .ready .cols-most), omega (arith, c .before .before .before .before .before .before .before .before .if1 .left))
@@ -90,9 +91,9 @@ pub +walk-spec : {M : Type 1} → statement M
     (λ c. search needs)
     (λ c. search needs)
     (walk-returns-3 t)
-    (walk-slice-reshare-prefix-hopeless t)
-    (walk-slice-aggregate-hopeless t)
-    (walk-hopeless-requires t)
+    (walk-slice-reshare-prefix-left-out t)
+    (walk-slice-aggregate-left-out t)
+    (walk-left-out-requires t)
     (λ c. search needs)
     (walk-returns-4 t)
     (walk-with-next-requires t)

@@ -1,5 +1,5 @@
 -- `leaf` meets its contract.
-use Rattle.putback.proofs.Pruning.{kept-inside, marks-few, leaf-held, leaf-risen, risen}
+use Rattle.putback.proofs.Pruning.{kept-inside, marks-few, leaf-held, still-going, leaf-risen, risen}
 use lib.Seq.{length-take-le}
 use mathlib.Core.Path.{refl, sym}
 use native.Mathlib.Omega.{arith}
@@ -14,7 +14,7 @@ count-holding-requires : tie.Need-count-holding-requires
 count-holding-requires c κs = let g = c .before .before .before .before .before .pre .0 in (g .ready .k-some, g .ready .k-most, marks-few g)
 
 returns : tie.Need-returns
-returns c = let q = c .before .before .before .before .before .before .before .before .pre in (leaf-held (q .0) _ (q .1) (q .2) _ (c .before .before .count-holding .ensures) (c .if1 .taken), refl, q .0)
+returns c = let q = c .before .before .before .before .before .before .before .before .pre in (leaf-held (q .0) _ (q .1) (q .2) _ (c .before .before .count-holding .ensures) (c .if1 .taken), refl, still-going (q .0) _ (q .1) (q .2) _ (c .before .before .count-holding .ensures))
 
 slice-aggregate-raised : tie.Need-slice-aggregate-raised
 slice-aggregate-raised c = let s = c .before .before .before .before .before .before .before .before .before .before in sym (length-take-le (s .args .held .n) (s .args .kept .now) (omega (arith, s .pre .0 .few, s .pre .0 .kept-room)))
@@ -29,7 +29,7 @@ mark-requires : tie.Need-mark-requires
 mark-requires c κs = let g = c .before .before .before .before .before .before .before .before .before .before .before .before .before .before .before .before .pre .0 in (g .ready, omega (arith, g .few, g .kept-room), omega (arith, g .few, g .marks-room), kept-inside g)
 
 returns-2 : tie.Need-returns-2
-returns-2 c = 
+returns-2 c =
     let q = c .before .before .before .before .before .before .before .before .before .before .before .before .before .before .before .before .before .before .before .before .before .pre in
     let r = c .before .before .before .before .before .before .before .before .before .raised in
     let m = c .before .before .before .before .mark in

@@ -29,11 +29,11 @@ use Rattle.tableadjustment.proofs.pass.down.Statement.{statement}
 use Rattle.tableadjustment.proofs.pass.down.Tie as tie
 
 abbrev Inv-loop : tie.InvT-loop
-Inv-loop table rows columns k observed live kept₀ marks₀ figures₀ from n order counts passed₀ figure₀ last₀ s₀ kept marks figures passed figure last s =
-    (length marks ≡ 4096) × (n ≤ 32) × Midway table rows columns k observed live order n figures passed figure last s × (length kept ≡ 4096)
+Inv-loop table rows columns k observed live marks₀ figures₀ from n order counts passed₀ figure₀ last₀ s₀ marks figures passed figure last s =
+    (length marks ≡ 4096) × (n ≤ 32) × Midway table rows columns k observed live order n figures passed figure last s
 
 abbrev μ-loop : tie.MeasureT-loop
-μ-loop table rows columns k observed live kept₀ marks₀ figures₀ from n order counts passed₀ figure₀ last₀ s₀ kept marks figures passed figure last s = n - s
+μ-loop table rows columns k observed live marks₀ figures₀ from n order counts passed₀ figure₀ last₀ s₀ marks figures passed figure last s = n - s
 
 unrejected-requires : tie.Need-unrejected-requires Inv-loop μ-loop
 unrejected-requires c κs = c .before .pre .0 .ready .cols-most
@@ -81,7 +81,7 @@ loop-holds c =
     let o = c .before .before in
     let n = o .before .before in
     let p = n .before .before .before .pre in
-    (search needs, few-live (p .0) _ (n .size-of .ensures), midway-start (p .0) (p .1) _ _ (n .size-of .ensures) (o .order .ensures) _ (n .before .unrejected .ensures), search needs)
+    (search needs, few-live (p .0) _ (n .size-of .ensures), midway-start (p .0) (p .1) _ _ (n .size-of .ensures) (o .order .ensures) _ (n .before .unrejected .ensures))
 
 mul-i : tie.Need-mul-i Inv-loop μ-loop
 mul-i c = omega (arith, c .before .loop .inv .1)
@@ -116,9 +116,9 @@ array-read-b c = let g = c .before in omega (arith, g .before .loop .inv .1, g .
 
 raised-requires : tie.Need-raised-requires Inv-loop μ-loop
 raised-requires c κs =
-    let g = c .before .before .before .before in
+    let g = c .before .before .before in
     let l = g .before .loop .inv in
-    (midway-raising (l .2) (g .loop-test .taken) _ refl (g .before .before .maxima .result) (g .before .before .maxima .ensures), omega (arith, l .3, l .2 .ready .ready .rows-most), omega (arith, l .0, l .2 .ready .ready .rows-most), omega (arith, l .0))
+    (midway-raising (l .2) (g .loop-test .taken) _ refl (g .before .before .maxima .result) (g .before .before .maxima .ensures), omega (arith, l .0, l .2 .ready .ready .rows-most), omega (arith, l .0))
 
 mul-figures : tie.Need-mul-figures Inv-loop μ-loop
 mul-figures c = let g = c .before .before in let f = column-32 (g .before .loop .inv .2) (g .loop-test .taken) in omega (arith, f)
@@ -147,8 +147,8 @@ loop-again c =
     let g = c .before .before .before in
     let l = g .before .loop .inv in
     ⊎-elim
-    (λ w. (ap length (w .7) ∙ w .3 .kept .1 .1 .0 ∙ l .0, l .1, midway-counted (l .2) (g .loop-test .taken) _ refl _ (c .bit .ensures) _ _ _ (w .3 .ensures) (w .8) (w .9), ap length (w .6) ∙ w .3 .kept .1 .0 ∙ l .3))
-    (λ w. (ap length (w .2) ∙ l .0, l .1, midway-tied (l .2) (g .loop-test .taken) _ refl _ (c .bit .ensures) _ _ (w .0 .left) (w .3) (w .4), ap length (w .1) ∙ l .3))
+    (λ w. (ap length (w .4) ∙ w .2 .kept .1 .0 ∙ l .0, l .1, midway-counted (l .2) (g .loop-test .taken) _ refl _ (c .bit .ensures) _ _ _ (w .2 .ensures) (w .5) (w .6)))
+    (λ w. (ap length (w .1) ∙ l .0, l .1, midway-tied (l .2) (g .loop-test .taken) _ refl _ (c .bit .ensures) _ _ (w .0 .left) (w .2) (w .3)))
     (c .before .if1 .came)
 
 returns : tie.Need-returns Inv-loop μ-loop
@@ -181,7 +181,6 @@ down-spec =
     shared-slice-read-v
     mul-b
     array-read-b
-    (λ c. search needs)
     (λ c. search needs)
     raised-requires
     mul-figures
