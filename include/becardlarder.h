@@ -60,7 +60,7 @@ extern "C" {
  * Refusals: 1, then word by word from the start, the kind (2) before the value: 3, 4, at each offer 5 and 6, 7, 8. A
  * buffer too short (12) comes last. Where the call is refused the buffer is unchanged.
  *
- * Stack: about 80 KB, and less than 96 KB.
+ * Stack: about 110 KB, and less than 120 KB.
  */
 uint32_t becardlarder_trial_verdicts(const uint8_t *file, size_t file_len, uint8_t *verdicts, size_t verdicts_len);
 
@@ -79,7 +79,7 @@ uint32_t becardlarder_trial_verdicts(const uint8_t *file, size_t file_len, uint8
  * Values compare as IEEE 754 doubles, minus zero and zero being equal. That needs denormals-are-zero to be off in the
  * calling thread, as it is unless the program was linked with -ffast-math or has switched it on.
  *
- * Stack: less than 16 KB.
+ * Stack: less than 56 KB.
  */
 uint32_t becardlarder_table_verdicts(const double *table, size_t table_len, size_t rows, size_t columns, size_t k,
                                      size_t a, size_t b, size_t observed, double *work, size_t work_len,

@@ -27,7 +27,7 @@ FLAGS = ("-Wall", "-Wextra", "-Werror", "-O2", "-I", ROOT / "include")
 GUARD = 8  # places beyond each lent buffer that the driver shows too
 FIGURE_MARK = int.from_bytes([MARK] * 4, "little")  # in a place for a figure, or for the rows
 # Bytes of stack: what include/becardlarder.h promises.
-FILE_STACK, TABLE_STACK = 96 * 1024, 16 * 1024
+FILE_STACK, TABLE_STACK = 120 * 1024, 56 * 1024
 FILE_ADJUSTED_STACK, TABLE_ADJUSTED_STACK = 112 * 1024, 32 * 1024
 
 _folder = tempfile.TemporaryDirectory()

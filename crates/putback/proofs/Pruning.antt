@@ -3,7 +3,7 @@
 --   leaf-held, leaf-risen     a set that no more than e rows exceed, and one that more do
 --   still-going, risen        what holds where the value stays, and once the rows are marked by its value
 --   pruned                    a branch none of whose sets can rise
---   hopeless-set, hopeless-all     the test by its parts; unite-is, unite-room, rest-room: the mask of all columns as it is made
+--   hopeless-set, hopeless-all, all-hopeless, all-few     the test by its parts; unite-is, unite-room, rest-room: the mask of all columns as it is made
 use Prim.Native.Nat.{ℕ, _+_, _-_, _*_, _^_, _≤_, _<_}
 use native.Mathlib.Omega.{arith}
 use mathlib.Core.Path.{_≡_, refl, sym, ap, ap₂, _∙_, subst}
@@ -18,7 +18,7 @@ use borrow.Author.Tests.{le-leb, lt-leb}
 use Rattle.order.specs.Order.{smaller}
 use Rattle.order.specs.Counting.{count, all}
 use Rattle.order.specs.Lists.{rowsOf}
-use Rattle.order.proofs.Booleans.{T-true, and-left, and-right}
+use Rattle.order.proofs.Booleans.{T-true, and-left, and-right, or-right}
 use Rattle.order.proofs.Infinities.{finite-low}
 use Rattle.order.proofs.Lists.{rowsOf-length}
 use Rattle.order.proofs.Rows.{Sound, rowsOf-sound}
@@ -135,9 +135,17 @@ module _ (k e : ℕ) (ms : List ℕ) (b : Branch) (x : ℕ) (counted : x ≡ hol
   unfolding hopelessIn
   hopeless-set h = simp (le-leb (holding (k - b .left) (b .set) ms) e (omega (arith, counted)))
 
-  pub hopeless-all : e < x → (y m : ℕ) → m ≡ unite b → y ≡ holding k m ms → leb y e ≡ hopelessIn k e ms b
+  pub hopeless-all : e < x → (y : Bool) → y ≡ leb (holding k (unite b) ms) e → y ≡ hopelessIn k e ms b
   unfolding hopelessIn
-  hopeless-all h y m u q = simp (lt-leb (holding (k - b .left) (b .set) ms) e (omega (arith, counted, h))) (ap (λ (z : ℕ). leb z e) (q ∙ ap (λ (z : ℕ). holding k z ms) u))
+  hopeless-all h y q = simp (lt-leb (holding (k - b .left) (b .set) ms) e (omega (arith, counted, h))) q
+
+-- few rows in all columns together are enough
+pub all-hopeless : (k e : ℕ) (ms : List ℕ) (b : Branch) (y : Bool) → y ≡ leb (holding k (unite b) ms) e → T y → T (hopelessIn k e ms b)
+unfolding hopelessIn
+all-hopeless k e ms b y q t = or-right (leb (holding (k - b .left) (b .set) ms) e) (leb (holding k (unite b) ms) e) (subst (λ (d : Bool). T d) q t)
+
+pub all-few : (k e : ℕ) (ms : List ℕ) (b : Branch) (y m : ℕ) → m ≡ unite b → y ≡ holding k m ms → leb y e ≡ leb (holding k (unite b) ms) e
+all-few k e ms b y m u q = ap (λ (z : ℕ). leb z e) (q ∙ ap (λ (z : ℕ). holding k z ms) u)
 
 pub unite-is : (b : Branch) (v : ℕ) → v ≡ 2 ^ (b .from) → b .set + b .rest * v ≡ unite b
 unite-is b v e = ap (λ (z : ℕ). b .set + b .rest * z) e

@@ -57,6 +57,10 @@ fn climb(
         n,
         risen: false,
     };
+    if b.left == 0 {
+        let one = walk::leaf(table, work, kept, marks, f, b.set, held);
+        return one.value;
+    }
     let h = walk::walk(table, work, kept, marks, f, b, held);
     h.value
 }

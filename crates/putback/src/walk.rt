@@ -5,11 +5,12 @@ use critical::Figures;
 ghost use mathlib.Core.Path.{_≡_};
 ghost use mathlib.Core.List.{[], _∷_};
 ghost use Prim.Native.Nat.{_<_, _≤_, _^_};
-ghost use lib.Dec.{T};
+ghost use lib.Dec.{T, leb};
 ghost use lib.ListN.{length, drop};
 ghost use Rattle.order.specs.Lists.{rowsOf};
 ghost use Rattle.columns.specs.Columns.{size, columnsOf};
 ghost use Rattle.method.specs.Method.{criticalValue};
+ghost use Rattle.masks.specs.Marks.{holding};
 ghost use Rattle.putback.specs.Internal.{Going, At, best, better, setsOf, unite, hopelessIn};
 
 // The best value so far, the set that gave it first, how many rows are marked by it, and whether the last set rose.
@@ -21,7 +22,7 @@ pub struct Held {
 }
 
 // The better of what is held and c of the columns of `set`, which is worked out only where it is larger.
-fn leaf(
+pub(crate) fn leaf(
     table: &[f64],
     work: &mut [f64],
     kept: &mut [u16],
@@ -52,6 +53,15 @@ fn leaf(
     }
 }
 
+// Whether no more than e rows have k columns of all those of a branch together above the best value.
+fn few_in_all(marks: &[u32], f: Figures, b: Branch) -> bool
+    requires { ⌜ (0 < f .k) × (f .k ≤ 4) × (length (now marks) ≤ 4096) × (b .from < 32) × (unite b < 2 ^ 32) ⌝ }
+    ensures { λ r. ⌜ r ≡ leb (holding (f .k) (unite b) (now (marks .entry))) (f .e) ⌝ }
+{
+    let all = b.set + b.rest * masks::bit(b.from);
+    masks::count_holding(marks, all, f.k) <= f.e
+}
+
 // Whether no set of a branch can rise: a row counts only if it has all of k but those to be chosen in `set`, and k in all columns together.
 fn hopeless(marks: &[u32], f: Figures, b: Branch) -> bool
     requires { ⌜ (f .k ≤ 4) × (b .left < f .k) × (length (now marks) ≤ 4096) × (b .from < 32) × (unite b < 2 ^ 32) ⌝ }
@@ -60,18 +70,31 @@ fn hopeless(marks: &[u32], f: Figures, b: Branch) -> bool
     if masks::count_holding(marks, b.set, f.k - b.left) <= f.e {
         return true;
     }
-    let all = b.set + b.rest * masks::bit(b.from);
-    masks::count_holding(marks, all, f.k) <= f.e
+    few_in_all(marks, f, b)
 }
 
-// Whether a branch is left. With one column to choose each set is counted anyway: then it is asked only where the last set rose.
+// Whether the column before the next one is in `set`, as it is where it has just been chosen. It only tells when a look pays.
+fn just_chosen(b: Branch) -> bool
+    requires { ⌜ b .from < 32 ⌝ }
+{
+    if b.from == 0 {
+        return true;
+    }
+    b.set / masks::bit(b.from - 1) % 2 == 1
+}
+
+// Whether a branch is left. A look that was made with the same marks is not made again: with one column to choose each set is counted anyway, and `set` is the
+// same until a column is chosen.
 fn left_out(marks: &[u32], f: Figures, b: Branch, risen: bool) -> bool
     requires { ⌜ (f .k ≤ 4) × (b .left < f .k) × (length (now marks) ≤ 4096) × (b .from < 32) × (unite b < 2 ^ 32) ⌝ }
     ensures { λ r. ⌜ (T r → T (hopelessIn (f .k) (f .e) (now (marks .entry)) b)) ⌝ }
 {
-    if b.left == 1 {
-        if !risen {
+    if !risen {
+        if b.left == 1 {
             return false;
+        }
+        if !just_chosen(b) {
+            return few_in_all(marks, f, b);
         }
     }
     hopeless(marks, f, b)
