@@ -7,7 +7,7 @@
 --   unite b              the mask of all columns of a branch
 --   hopelessIn k e ms b  by the marks ms, no set of the branch can have more than e rows
 --   At cols k b          what holds of each branch of the walk
---   best h               what is held, without the number of marked rows
+--   best h               what is held, without the number of marked rows and whether the last set rose
 --   Going t f work kept marks h     what holds of a table, of the buffers and of what is held
 use Prim.Native.Nat.{ℕ, _+_, _-_, _*_, _/_, _^_, _≤_, _<_}
 use mathlib.Core.Bool.{Bool, false, cond, _||_}
