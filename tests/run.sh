@@ -7,8 +7,6 @@ cd "$(dirname "$0")/.." || exit 1
 log=$(mktemp)
 trap 'rm -f "$log"' EXIT
 
-# One check more than processors: a check waits for files now and then.
-export RT_JOBS=${RT_JOBS:-$(($(nproc) + 1))}
 rt ci | tee "$log" | sed '$d'
 status=${PIPESTATUS[0]}
 last=$(tail -n 1 "$log")
