@@ -83,8 +83,8 @@ fn just_chosen(b: Branch) -> bool
     b.set / masks::bit(b.from - 1) % 2 == 1
 }
 
-// Whether a branch is left. A look that was made with the same marks is not made again: with one column to choose each set is counted anyway, and `set` is the
-// same until a column is chosen.
+// Whether a branch is left; not always where it could be. The look by `set` is made where a column was just chosen or the last set rose; with one column to choose
+// both looks are made only where the last set rose, since each set is then counted anyway.
 fn left_out(marks: &[u32], f: Figures, b: Branch, risen: bool) -> bool
     requires { ⌜ (f .k ≤ 4) × (b .left < f .k) × (length (now marks) ≤ 4096) × (b .from < 32) × (unite b < 2 ^ 32) ⌝ }
     ensures { λ r. ⌜ (T r → T (hopelessIn (f .k) (f .e) (now (marks .entry)) b)) ⌝ }
