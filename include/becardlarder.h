@@ -1,6 +1,7 @@
 /*
- * Becardlarder for hosts written in C: which offers are rejected, by an exact randomization test with the stepdown method,
- * and the adjusted figure of each offer: the least allowance at which it would be rejected.
+ * Becardlarder for hosts written in C: which offers are rejected, by an exact randomization test with the stepdown method;
+ * the adjusted figure of each offer: the least allowance at which it would be rejected; and both over balanced tables, in
+ * which every offer is weighed against its own rows alone.
  *
  * Link with libhost.a and the C library, on x86-64 Linux. The functions are proved to return, to read and write nothing
  * but what is said here, and to answer what their definitions give. In return each pointer has to reach as many places
@@ -10,8 +11,8 @@
  * Threads: the functions keep no state and allocate nothing. Any number of threads may call them at the same time, each
  * with buffers of its own.
  *
- * Answers: below 100 the answer is the number of rejected offers; of the calls for adjusted figures it is 0. Above 100 it
- * is 100 plus one of these refusal numbers, and nothing has been written:
+ * Answers: below 100 the answer is the number of rejected offers; of the calls for adjusted figures and of the one for a
+ * balanced table it is 0. Above 100 it is 100 plus one of these refusal numbers, and nothing has been written:
  *
  *    1  the file is empty, its length is not a multiple of 4 bytes, or it is above BECARDLARDER_LONGEST_FILE
  *    2  a word of the file is missing, or of another kind than its place needs
@@ -118,6 +119,37 @@ uint32_t becardlarder_trial_adjusted(const uint8_t *file, size_t file_len, uint3
 uint32_t becardlarder_table_adjusted(const double *table, size_t table_len, size_t rows, size_t columns, size_t k,
                                      size_t observed, double *work, size_t work_len, uint32_t *figures,
                                      size_t figures_len);
+
+/*
+ * Makes the balanced table of a table, which has rows and columns as for becardlarder_table_verdicts: each entry becomes
+ * the number of rows of its own column whose value is at most that entry, its own row counted.
+ *
+ * Returns 0. The first rows times columns places of out then hold the balanced table, row after row; places beyond are
+ * unchanged. Handed to becardlarder_table_verdicts it gives the balanced verdicts of the table, and to
+ * becardlarder_table_adjusted the adjusted figures that belong to them.
+ *
+ * Refusals: 4, for rows and columns alone, 9, 11, then 12 for the buffer. Where the call is refused the buffer is
+ * unchanged.
+ *
+ * Values compare as for becardlarder_table_verdicts.
+ *
+ * Stack: less than 96 KB.
+ */
+uint32_t becardlarder_table_balanced(const double *table, size_t table_len, size_t rows, size_t columns, double *out,
+                                     size_t out_len);
+
+/*
+ * Reads a trial file and runs the balanced table of its trial, in which offers of small and of large sums weigh the same.
+ *
+ * Returns the number of rejected offers; verdicts[i] is then as for becardlarder_trial_verdicts, but of the balanced run,
+ * and bytes beyond the offers are unchanged. BECARDLARDER_MOST_OFFERS bytes are always enough.
+ *
+ * Refusals: those of becardlarder_trial_verdicts, in the same order. Where the call is refused the buffer is unchanged.
+ *
+ * Stack: less than 140 KB.
+ */
+uint32_t becardlarder_trial_balanced_verdicts(const uint8_t *file, size_t file_len, uint8_t *verdicts,
+                                              size_t verdicts_len);
 
 #ifdef __cplusplus
 }

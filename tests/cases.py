@@ -8,6 +8,7 @@ those that only the tests from C take, which store nothing.
 import random
 
 from generators.adjusted import adjusted_cases
+from generators.balanced import balanced_cases
 from generators.examples import example_cases
 from generators.files import file_cases, further_file_cases
 from generators.order import further_order_cases, order_cases
@@ -32,7 +33,7 @@ FAMILIES = {
     "putback_step": putback_step_cases,
 }
 FURTHER = {"file": further_file_cases, "table": further_table_cases, "order": further_order_cases,
-           "putback": further_putback_cases, "adjusted": adjusted_cases}
+           "putback": further_putback_cases, "adjusted": adjusted_cases, "balanced": balanced_cases}
 EVERY_FAMILY = (*FAMILIES, *(family for family in FURTHER if family not in FAMILIES))
 
 

@@ -53,16 +53,18 @@ class Program:
 
 
 class Samples(Program):
+    stored = "w.trial"  # the sample that the crate's stored run reads
+
     def test_each_sample(self):
         for path in sorted((ROOT / "samples").glob("*.trial")):
             data = path.read_bytes()
             self.assertEqual(self.printed(data), self.text(data), path.name)
 
     def test_the_stored_run_is_the_sample(self):
-        stored = ROOT / "crates" / self.name
-        data = (stored / "stdin").read_bytes()
-        self.assertEqual(data, (ROOT / "samples" / "w.trial").read_bytes())
-        self.assertEqual((stored / "stdout").read_text(), self.text(data))
+        crate = ROOT / "crates" / self.name
+        data = (crate / "stdin").read_bytes()
+        self.assertEqual(data, (ROOT / "samples" / self.stored).read_bytes())
+        self.assertEqual((crate / "stdout").read_text(), self.text(data))
 
 
 class Inputs(Program):

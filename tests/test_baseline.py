@@ -18,7 +18,7 @@ from pathlib import Path
 
 from cases import SEED, cases_of, every_case_of, every_table_case
 from expected import MARK
-from generators.kinds import TableCase
+from generators.kinds import BalancedCase, TableCase
 from generators.tables import neighbours, normal, rounded, signed_zeros, ties
 from reference import ccall, report, table, trialfile
 from reference.refusals import Refused
@@ -208,6 +208,37 @@ class Adjusted(unittest.TestCase):
                              rows)
             for call in (baseline.figures_of_table, baseline.figures_by_maxima):
                 self.check(call, lent, trial.offers)
+
+
+class Balanced(unittest.TestCase):
+    """Balanced tables, in both ways."""
+
+    def check(self, call, case, room: int) -> int:
+        """A way's answer to a table with a buffer of so many places; the reference's result."""
+        expected, out = [float(MARK)] * room, marked(c_double, room)
+        answer = ccall.balanced_on_table(case.values, case.rows, case.columns, expected)
+        values = (c_double * max(len(case.values), 1))(*case.values)
+        accepted = call(values, *map(c_size_t, (len(case.values), case.rows, case.columns)), out,
+                        c_size_t(room))
+        self.assertEqual(accepted, answer == 0, case.name)
+        self.assertEqual(list(out), expected + [float(MARK)] * GUARD, case.name)
+        return answer
+
+    def test_tables(self):
+        for call in (baseline.balanced_by_codes, baseline.balanced_by_bits):
+            results = {self.check(call, case, case.out_room) for case in every_case_of("balanced")}
+            self.assertEqual(results, {0, 104, 109, 111, 112})
+
+    def test_trials(self):
+        """The tables of trials."""
+        for case in every_case_of("file"):
+            trial = trialfile.read(case.data)
+            if isinstance(trial, Refused) or trial.pairs > 7:
+                continue
+            rows = rows_of(trial)
+            lent = BalancedCase(case.name, tuple(table_of(trial)), rows, trial.offers, 0)
+            for call in (baseline.balanced_by_codes, baseline.balanced_by_bits):
+                self.check(call, lent, rows * trial.offers)
 
 
 class Files(unittest.TestCase):

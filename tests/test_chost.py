@@ -9,13 +9,15 @@ import subprocess
 import tempfile
 import unittest
 from dataclasses import dataclass
+from itertools import islice
 from pathlib import Path
 
-from cases import every_case_of
+from cases import every_case_of, every_table_case
 from commands import rt, run
 from expected import MARK
 from generators.kinds import TableCase
-from reference import ccall
+from reference import balanced, ccall
+from reference.adjusted import figures_refusal
 from reference.refusals import Refused
 from reference.table import Rejected
 from reference.trial import full_run
@@ -29,6 +31,7 @@ FIGURE_MARK = int.from_bytes([MARK] * 4, "little")  # in a place for a figure, o
 # Bytes of stack: what include/becardlarder.h promises.
 FILE_STACK, TABLE_STACK = 120 * 1024, 56 * 1024
 FILE_ADJUSTED_STACK, TABLE_ADJUSTED_STACK = 112 * 1024, 32 * 1024
+FILE_BALANCED_STACK, TABLE_BALANCED_STACK = 140 * 1024, 96 * 1024
 
 _folder = tempfile.TemporaryDirectory()
 
@@ -75,27 +78,32 @@ def results(calls) -> set:
     return {struct.unpack("<I", call.answer[:4])[0] for call in calls}
 
 
-def file_call(case, room: int) -> Call:
-    """A file case with a buffer of so many bytes."""
+def file_call(frame: bytes, call, case, room: int) -> Call:
+    """A file case with a buffer of so many bytes, for the verdicts that a call of the reference gives."""
     buffer = bytearray([MARK]) * room
-    result = ccall.on_file(case.data, buffer)
+    result = call(case.data, buffer)
     return Call(f"{case.name}, buffer of {room}",
-                b"F" + struct.pack("<2Q", len(case.data), room) + case.data,
+                frame + struct.pack("<2Q", len(case.data), room) + case.data,
                 struct.pack("<I", result) + buffer + bytes([MARK]) * GUARD)
 
 
-def file_calls():
+def file_calls(frame: bytes, call):
     """Every file case, with buffers too short, exact and longer."""
     for case in every_case_of("file"):
         trial = read(case.data)
         rooms = {0, 16} if isinstance(trial, Refused) else {trial.offers - 1, trial.offers}
         for room in sorted(rooms | {case.buffer_room}):
-            yield file_call(case, room)
+            yield file_call(frame, call, case, room)
 
 
-def work_places(work) -> bytes:
-    """A work buffer and its guard, as the driver shows them."""
-    return struct.pack(f"<{len(work) + GUARD}d", *work, *[float(MARK)] * GUARD)
+def packed(values) -> bytes:
+    """Values as the driver reads and shows them."""
+    return struct.pack(f"<{len(values)}d", *values)
+
+
+def value_places(values) -> bytes:
+    """A buffer of values and its guard, as the driver shows them."""
+    return packed([*values, *[float(MARK)] * GUARD])
 
 
 def table_call(case, room: int, values=None) -> Call:
@@ -105,8 +113,8 @@ def table_call(case, room: int, values=None) -> Call:
     result = ccall.on_table(case.values, *figures, work, buffer)
     return Call(f"{case.name}, buffer of {room}",
                 b"T" + struct.pack("<9Q", len(case.values), *figures, case.work_room, room)
-                + (values or struct.pack(f"<{len(case.values)}d", *case.values)),
-                struct.pack("<I", result) + work_places(work) + buffer + bytes([MARK]) * GUARD)
+                + (values or packed(case.values)),
+                struct.pack("<I", result) + value_places(work) + buffer + bytes([MARK]) * GUARD)
 
 
 def table_calls():
@@ -150,8 +158,8 @@ def table_adjusted_call(case, room: int, values=None) -> Call:
     result = ccall.adjusted_on_table(case.values, *given, work, figures)
     return Call(f"{case.name}, {room} figures",
                 b"A" + struct.pack("<7Q", len(case.values), *given, case.work_room, room)
-                + (values or struct.pack(f"<{len(case.values)}d", *case.values)),
-                struct.pack("<I", result) + work_places(work) + figure_places(figures))
+                + (values or packed(case.values)),
+                struct.pack("<I", result) + value_places(work) + figure_places(figures))
 
 
 def table_adjusted_calls():
@@ -164,6 +172,43 @@ def table_adjusted_calls():
             yield table_adjusted_call(case, room)
 
 
+def balanced_call(case, room: int, values=None) -> Call:
+    """A table to be balanced into a buffer of so many places; `values` are its values as bytes."""
+    out = [float(MARK)] * room
+    result = ccall.balanced_on_table(case.values, case.rows, case.columns, out)
+    return Call(f"{case.name}, {room} places",
+                b"B" + struct.pack("<4Q", len(case.values), case.rows, case.columns, room)
+                + (values or packed(case.values)),
+                struct.pack("<I", result) + value_places(out))
+
+
+def balanced_calls():
+    """Every case of a table to be balanced; those of full runs too, with exact buffers."""
+    for case in every_case_of("balanced"):
+        yield balanced_call(case, case.out_room)
+    for case in every_table_case():
+        yield balanced_call(case, len(case.values))
+
+
+def balanced_figures_call(case) -> Call:
+    """An accepted table case: the adjusted figures of its balanced table."""
+    given = (case.rows, case.columns, case.k, case.observed)
+    work, figures = [float(MARK)] * case.rows, [FIGURE_MARK] * case.columns
+    values = balanced.table_balanced(case.values, case.rows, case.columns)
+    result = ccall.adjusted_on_table(values, *given, work, figures)
+    return Call(f"{case.name}, balanced figures",
+                b"C" + struct.pack("<7Q", len(case.values), *given, case.rows, case.columns)
+                + packed(case.values),
+                struct.pack("<I", result) + value_places(work) + figure_places(figures))
+
+
+def balanced_figures_calls():
+    """One in five of the accepted tables for adjusted figures."""
+    cases = (case for case in every_case_of("adjusted")
+             if figures_refusal(case.values, case.rows, case.columns, case.k, case.observed) is None)
+    return map(balanced_figures_call, islice(cases, 0, None, 5))
+
+
 # Bits of what is no finite number: the two infinities; signalling and quiet patterns of either sign,
 # with the least and the greatest payload and some between.
 INFINITE = (0x7FF0_0000_0000_0000, 0xFFF0_0000_0000_0000)
@@ -172,6 +217,11 @@ SIGNALLING = tuple(sign << 63 | 0x7FF << 52 | payload for sign in (0, 1)
 QUIET = tuple(bits | 1 << 51 for bits in (*INFINITE, *SIGNALLING))
 # The largest finite value of either sign, next to these.
 LARGEST = (0x7FEF_FFFF_FFFF_FFFF, 0xFFEF_FFFF_FFFF_FFFF)
+
+
+def balanced_pattern_call(case, columns: int, values: bytes) -> Call:
+    """A table with so many columns, given as bytes, that is to be balanced."""
+    return balanced_call(case, case.rows * columns, values)
 
 
 def pattern_calls(patterns, call):
@@ -203,7 +253,7 @@ class Driver(unittest.TestCase):
         self.assertLess(used, stack)
 
     def test_files(self):
-        calls = list(file_calls())
+        calls = list(file_calls(b"F", ccall.on_file))
         self.assertGreaterEqual(results(calls), set(range(17)) | set(range(101, 109)) | {112})
         self.compare(calls, FILE_STACK)
 
@@ -229,9 +279,26 @@ class Driver(unittest.TestCase):
         self.assertEqual(results(calls), {0, 104, 109, 110, 111, 112})
         self.compare(calls, TABLE_ADJUSTED_STACK)
 
+    def test_balanced_files(self):
+        calls = list(file_calls(b"V", ccall.balanced_on_file))
+        self.assertGreaterEqual(results(calls), set(range(17)) | set(range(101, 109)) | {112})
+        self.compare(calls, FILE_BALANCED_STACK)
+
+    def test_balanced_tables(self):
+        calls = list(balanced_calls())
+        self.assertEqual(results(calls), {0, 104, 109, 111, 112})
+        self.compare(calls, TABLE_BALANCED_STACK)
+
+    def test_figures_of_balanced_tables(self):
+        """One call hands its table to the other."""
+        calls = list(balanced_figures_calls())
+        self.assertEqual(results(calls), {0})
+        self.compare(calls, TABLE_BALANCED_STACK)
+
     def test_patterns(self):
         """What is no finite number is refused by 11, whatever its bits and its place."""
-        for call, stack in ((table_call, TABLE_STACK), (table_adjusted_call, TABLE_ADJUSTED_STACK)):
+        for call, stack in ((table_call, TABLE_STACK), (table_adjusted_call, TABLE_ADJUSTED_STACK),
+                            (balanced_pattern_call, TABLE_BALANCED_STACK)):
             for patterns, refusal in ((INFINITE, True), (SIGNALLING, True), (QUIET, True),
                                       (LARGEST, False)):
                 calls = list(pattern_calls(patterns, call))

@@ -1,4 +1,4 @@
-"""The gate (tests/run.sh), `make run` and `make sheet`, with an `rt` and a `python3` that only pretend."""
+"""The gate (tests/run.sh) and the goals of make that run a program, with an `rt` and a `python3` that only pretend."""
 
 import os
 import shutil
@@ -77,8 +77,10 @@ class Run(Pretended):
         shutil.copy(ROOT / "Makefile", self.folder)
         self.program("target/bin/report", "echo report of $(cat)")
         self.program("target/bin/adjusted", "echo sheet of $(cat)")
+        self.program("target/bin/balanced", "echo balanced report of $(cat)")
         (self.folder / "samples").mkdir()
-        (self.folder / "samples" / "w.trial").write_text("w")
+        for name in ("w", "saffron"):
+            (self.folder / "samples" / f"{name}.trial").write_text(name)
 
     def make(self, goal: str = "run"):
         return subprocess.Popen(["make", "-C", self.folder, "--no-print-directory", goal],
@@ -108,11 +110,13 @@ echo 'rt: ok, 3 crates proved'""")
         self.assertEqual(told.splitlines()[:3],
                          ["order proved (3 s)", "rt: order proved (3 s)", "why not"])
 
-    def test_the_sheet(self):
+    def test_other_programs(self):
         self.program("bin/rt", 'echo "rt: $2 proved (7 s)"')
-        with self.make("sheet") as making:
-            self.assertEqual(making.communicate(), ("sheet of w\n", "adjusted proved (7 s)\n"))
-            self.assertEqual(making.returncode, 0)
+        for goal, program, text in (("sheet", "adjusted", "sheet of w\n"),
+                                    ("balanced", "balanced", "balanced report of saffron\n")):
+            with self.make(goal) as making:
+                self.assertEqual(making.communicate(), (text, f"{program} proved (7 s)\n"))
+                self.assertEqual(making.returncode, 0)
 
 
 if __name__ == "__main__":

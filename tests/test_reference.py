@@ -9,7 +9,8 @@ import unittest
 from dataclasses import replace
 from itertools import combinations
 
-from reference import adjusted, ccall, method, report, run, sheet, table, trial, trialfile
+from reference import (adjusted, balanced, ccall, method, report, run, sheet, table, trial,
+                       trialfile)
 from reference.method import Record
 from reference.refusals import Refused
 from reference.table import Kept, Rejected
@@ -27,6 +28,7 @@ end 1
 """
 P = [9, 8, 3, 4, 1, 2, 0, 4, 5, 1, 0, 1]
 NAN, INF = math.nan, math.inf
+SAFFRON = trial.make_trial((1, 4), 1, [("4011", (500, -300, 200)), ("0907", (3, 2, 1))])
 
 
 def w_at(a, b, k=1):
@@ -391,6 +393,165 @@ class AdjustedFigures(unittest.TestCase):
         self.assertEqual(ccall.adjusted_on_table([NAN] * 12, 4, 3, 2, 0, [], []), 111)
 
 
+class Balanced(unittest.TestCase):
+    """Document 02, §3."""
+
+    def column(self, *values):
+        """A column balanced, as a table of its own."""
+        return balanced.table_balanced([float(value) for value in values], len(values), 1)
+
+    def test_w(self):
+        expected = [8, 7, 5, 3, 7, 8, 3, 5, 6, 5, 2, 1, 4, 7, 1, 3]
+        self.assertEqual(balanced.table_balanced(trial.table_of(W), 8, 2), expected)
+        full = balanced.trial_run(W)
+        self.assertEqual(full.verdicts, (Rejected(1, 7.0), Kept(7.0)))
+        self.assertEqual((full.counts, critical_values(full)), ((1, 3), [7, 7]))
+        self.assertEqual(balanced.report(W_FILE), W_REPORT.replace("step 1 4\nstep 2 2",
+                                                                   "step 1 7\nstep 2 7"))
+
+    def test_milk_and_saffron(self):
+        data = trialfile.write(SAFFRON)
+        self.assertEqual(report.report(data), "trial 3 2 1 2 8\nstep 1 400\n4011 kept 1 3\n"
+                                              "0907 kept 1 1\nend 0\n")
+        self.assertEqual(balanced.report(data), "trial 3 2 1 2 8\nstep 1 7\nstep 2 6\n"
+                                                "4011 kept 2 3\n0907 rejected 1 1\nend 1\n")
+        expected = [6, 8, 2, 5, 8, 6, 5, 2, 5, 7, 1, 3, 7, 5, 3, 1]
+        self.assertEqual(balanced.table_balanced(trial.table_of(SAFFRON), 8, 2), expected)
+
+    def test_ties(self):
+        self.assertEqual(self.column(3, 1, 3, 2), [4, 1, 4, 2])
+        self.assertEqual(self.column(5, 5, 5), [3, 3, 3])
+        self.assertEqual(self.column(2, 2, 1, 1, 3), [4, 4, 2, 2, 5])
+
+    def test_zeros(self):
+        self.assertEqual(self.column(0.0, -0.0, -5e-324), [3, 3, 1])
+        self.assertEqual(self.column(-0.0, 5e-324, 0.0), [2, 3, 2])
+
+    def test_ends(self):
+        """The largest and the smallest values, and next ones."""
+        huge, one = 1.7976931348623157e308, math.nextafter(1.0, 2.0)
+        self.assertEqual(self.column(huge, -huge, 0.0, 5e-324, -5e-324), [5, 1, 3, 4, 2])
+        self.assertEqual(self.column(one, 1.0, math.nextafter(1.0, 0.0), -one), [4, 3, 2, 1])
+
+    def test_one_row_and_one_column(self):
+        self.assertEqual(balanced.table_balanced([5.0, -2.0, 5.0], 1, 3), [1, 1, 1])
+        self.assertEqual(self.column(-3.5), [1])
+        self.assertEqual(self.column(1, 2, 3), [1, 2, 3])
+
+    def test_each_column_by_itself(self):
+        self.assertEqual(balanced.table_balanced([1.0, 900.0, 2.0, 700.0, 3.0, 800.0], 3, 2),
+                         [1, 3, 2, 1, 3, 2])
+
+    def test_by_the_definition(self):
+        """Row by row counted, and balancing again changes nothing."""
+        rng = random.Random("balanced, definition")
+        for _ in range(300):
+            given = random_table(rng, 12, 6)
+            values, rows, columns = (given[name] for name in ("values", "rows", "columns"))
+            found = balanced.table_balanced(values, rows, columns)
+            self.assertEqual(found, [sum(other <= value for other in values[i % columns::columns])
+                                     for i, value in enumerate(values)])
+            self.assertEqual(balanced.table_balanced(found, rows, columns), found)
+
+    def test_the_order_alone(self):
+        """Strictly rising changes, another one of each column, give the same balanced table."""
+        rng = random.Random("balanced, rising")
+        rising = (math.atan, math.exp, lambda x: x ** 3, lambda x: 3 * x - 1e3, lambda x: 1e300 * x)
+        for _ in range(300):
+            given = random_table(rng)
+            values, rows, columns = (given[name] for name in ("values", "rows", "columns"))
+            chosen = [rng.choice(rising) for _ in range(columns)]
+            changed = [chosen[i % columns](value) for i, value in enumerate(values)]
+            self.assertEqual(balanced.table_balanced(changed, rows, columns),
+                             balanced.table_balanced(values, rows, columns))
+            self.assertEqual(balanced.full_run(**{**given, "values": changed}),
+                             balanced.full_run(**given))
+
+    def test_runs(self):
+        """Counts are the plain ones; so are the verdicts of one column."""
+        rng, differ = random.Random("balanced, runs"), 0
+        for _ in range(400):
+            given = random_table(rng, 12, 5)
+            plain, found = table.full_run(**given), balanced.full_run(**given)
+            self.assertEqual(found.counts, plain.counts)
+            if given["columns"] == 1:
+                self.assertEqual(steps_of(found), steps_of(plain))
+            differ += steps_of(found) != steps_of(plain)
+        self.assertGreater(differ, 20)
+
+    def test_figures(self):
+        """Adjusted figures of a balanced table tell its list at each level."""
+        for one, figures in ((W, (2, 3)), (SAFFRON, (3, 2))):
+            values = balanced.table_balanced(trial.table_of(one), 8, 2)
+            self.assertEqual(adjusted.table_figures(values, 8, 2, 1, 0), figures)
+            for e in range(8):
+                full = balanced.trial_run(replace(one, a=2 * e + 1, b=16))
+                self.assertEqual([step > 0 for step in steps_of(full)],
+                                 [figure <= e for figure in figures])
+
+    def check_order(self, call, good, faults):
+        """Each fault is refused by its number, alone and with each that comes later."""
+        for at, (number, fault) in enumerate(faults):
+            for later in [{}] + [later for _, later in faults[at + 1:]]:
+                self.assertEqual(call(**{**good, **later, **fault}), Refused(number))
+
+    def test_refusals(self):
+        good = dict(values=[1.0, 2.0, 7.0, -0.0], rows=2, columns=2, out=[9.0] * 5)
+        self.assertEqual(balanced.table_balanced(**good), [1, 2, 2, 1])
+        self.assertEqual(good["out"], [1, 2, 2, 1, 9])
+        short = [9.0] * 3
+        faults = [(4, dict(columns=33)), (9, dict(values=[NAN, 1.0, 2.0])),
+                  (11, dict(values=[1.0, -INF, 0.0, 0.0])), (12, dict(out=short))]
+        self.check_order(balanced.table_balanced, good, faults)
+        for sizes in (dict(rows=0), dict(columns=0), dict(rows=4097), dict(columns=33)):
+            self.assertEqual(balanced.table_balanced(**{**good, **sizes}), Refused(4))
+        self.assertEqual(short, [9.0] * 3)
+
+    def test_run_refusals(self):
+        good = dict(values=[1.0, 2.0], rows=2, columns=1, k=1, a=1, b=2, observed=1, out=[9.0] * 3,
+                    work=[9.0] * 3)
+        self.assertEqual(balanced.full_run(**good).verdicts, (Rejected(1, 1.0),))
+        self.assertEqual((good["out"], good["work"]), ([1.0, 2.0, 9.0], [0.0, 0.0, 9.0]))
+        short = [9.0]
+        faults = [(4, dict(k=2)), (3, dict(b=1)), (9, dict(values=[NAN, 1.0, 2.0])),
+                  (10, dict(observed=2)), (11, dict(values=[1.0, -INF])), (12, dict(out=short))]
+        self.check_order(balanced.full_run, good, faults)
+        out = [9.0] * 2
+        self.assertEqual(balanced.full_run(**{**good, "out": out, "work": short}), Refused(12))
+        self.assertEqual((out, short), ([9.0] * 2, [9.0]))
+
+    def test_trial_refusals(self):
+        self.assertEqual(balanced.trial_run(replace(W, a=4)), Refused(3))
+        self.assertEqual(balanced.trial_run(replace(W, a=4, pairs=10)), Refused(4))
+        for rooms in ((15, 16, 8), (16, 15, 8), (16, 16, 7)):
+            lent = [[7.0] * room for room in rooms]
+            self.assertEqual(balanced.trial_run(W, *lent), Refused(12))
+            self.assertEqual(lent, [[7.0] * room for room in rooms])
+        plain, out, work = [7.0] * 17, [7.0] * 18, [7.0] * 9
+        self.assertEqual(balanced.trial_run(W, plain, out, work), balanced.trial_run(W))
+        self.assertEqual(plain, trial.table_of(W) + [7.0])
+        self.assertEqual(out, balanced.table_balanced(trial.table_of(W), 8, 2) + [7.0] * 2)
+        self.assertEqual(work, [0.0] * 8 + [7.0])
+        self.assertEqual(balanced.report(W_FILE[:-1]), "refused 1\n")
+
+    def test_c_calls(self):
+        saffron, buffer = trialfile.write(SAFFRON), bytearray(b"\7" * 3)
+        self.assertEqual(ccall.balanced_on_file(saffron, buffer), 1)
+        self.assertEqual(buffer, b"\0\1\7")
+        short = bytearray(b"\7")
+        self.assertEqual(ccall.balanced_on_file(saffron, short), 112)
+        self.assertEqual(ccall.balanced_on_file(saffron + bytes(4), short), 108)
+        self.assertEqual(short, b"\7")
+        for room, answer in ((3, 112), (4, 0), (6, 0)):
+            out = [7.0] * room
+            self.assertEqual(ccall.balanced_on_table([3.0, 1.0, 3.0, 2.0], 4, 1, out), answer)
+            self.assertEqual(out, ([4.0, 1.0, 4.0, 2.0] + [7.0] * room)[:room] if answer == 0
+                             else [7.0] * room)
+        self.assertEqual(ccall.balanced_on_table([NAN], 1, 1, []), 111)
+        self.assertEqual(ccall.balanced_on_table([NAN], 1, 2, []), 109)
+        self.assertEqual(ccall.balanced_on_table([NAN], 1, 33, []), 104)
+
+
 def subsets(size):
     """All sets of the numbers below size."""
     return [set(chosen) for n in range(size + 1) for chosen in combinations(range(size), n)]
@@ -461,9 +622,9 @@ class Properties(unittest.TestCase):
             self.assertTrue(found != 0.0 or is_plus_zero(found))
 
     def test_demand_3_tables(self):
-        """At most e of the M runs reject k or more idle columns."""
+        """At most e of the M runs reject k or more idle columns, plain or balanced."""
         rng = random.Random("demand 3, tables")
-        for _ in range(60):
+        for run_of in (table.full_run, balanced.full_run) * 60:
             given = random_table(rng, 6)
             rows, columns = given["rows"], given["columns"]
             e = method.level_rows(rows, given["a"], given["b"])
@@ -472,19 +633,18 @@ class Properties(unittest.TestCase):
                 for g in range(rows):
                     values = [v if i % columns in idle else rng.choice((-9.0, 0.0, 1.0, 1e9))
                               for i, v in enumerate(given["values"])]
-                    full = table.full_run(**{**given, "values": values, "observed": g})
+                    full = run_of(**{**given, "values": values, "observed": g})
                     bad += idle_rejected(full, idle) >= given["k"]
                 self.assertLessEqual(bad, e)
 
     def test_demand_3_trials(self):
-        """At most e of the 2^n runs reject k or more idle offers."""
+        """At most e of the 2^n runs reject k or more idle offers, plain or balanced."""
         rng = random.Random("demand 3, trials")
-        for _ in range(60):
+        for run_of in (trial.full_run, balanced.trial_run) * 60:
             one = random_trial(rng, 3, 4, 4)
             e = method.level_rows(2 ** one.pairs, one.a, one.b)
             for idle in subsets(one.offers):
-                runs = [trial.full_run(self.run_g(rng, one, idle, g))
-                        for g in range(2 ** one.pairs)]
+                runs = [run_of(self.run_g(rng, one, idle, g)) for g in range(2 ** one.pairs)]
                 bad = sum(idle_rejected(full, idle) >= one.k for full in runs)
                 self.assertLessEqual(bad, e)
 
@@ -502,11 +662,12 @@ class Properties(unittest.TestCase):
 
     def test_report_and_c_call_agree(self):
         rng = random.Random("report")
-        for _ in range(150):
+        for call, text_of in ((ccall.on_file, report.report),
+                              (ccall.balanced_on_file, balanced.report)) * 150:
             one = random_trial(rng, 6, 8, 5)
             data, buffer = trialfile.write(one), bytearray(b"\xff" * 20)
-            answer = ccall.on_file(data, buffer)
-            text = report.report(data)
+            answer = call(data, buffer)
+            text = text_of(data)
             self.assertTrue(text.endswith(f"\nend {answer}\n"))
             self.assertEqual(answer, sum(1 for step in buffer[:one.offers] if step))
             self.assertEqual(buffer[one.offers:], b"\xff" * (20 - one.offers))

@@ -5,6 +5,7 @@
  *   stepdown.c   full runs of tables
  *   masks.c      the same, with the rows as masks of columns (steps.h, masks.h: what it shares with others)
  *   adjusted.c   adjusted figures of tables (document 02, section 1)
+ *   balanced.c   balanced tables (section 3)
  *   trial.c      trial records: checks, table, full run
  *   file.c       trial files: reader and writer
  *   report.c     the report's text, and the verdicts as the calls of include/becardlarder.h give them
@@ -79,6 +80,13 @@ int figures_of_table(const struct table *table, uint32_t *figures, size_t places
 
 /* The same, with the rows' maxima over the columns still to be passed, all found in one pass over the table before. */
 int figures_by_maxima(const struct table *table, uint32_t *figures, size_t places);
+
+/*
+ * The balanced table into the first places of out, by one sort of each column. By codes of 18 bits, and by counts where
+ * codes are few, or by all 64 bits, byte after byte.
+ */
+int balanced_by_codes(const double *values, size_t length, size_t rows, size_t columns, double *out, size_t places);
+int balanced_by_bits(const double *values, size_t length, size_t rows, size_t columns, double *out, size_t places);
 
 /* Whether the counts are in their ranges, and k is at most the offers. */
 int good_counts(const struct trial *trial);

@@ -49,6 +49,14 @@ static const struct task tasks[] = {
     {NULL, 0, "4096 x 32, ladder, C by maxima", MAXIMA, {LADDER, 4096, 32, 1, 0}},
     {NULL, 0, "4096 x 32, ladder, C by maxima", MAXIMA, {LADDER, 4096, 32, 4, 0}},
     {NULL, 0, "4096 x 32, slope, C by maxima", MAXIMA, {SLOPE, 4096, 32, 4, 0}},
+    {"Balanced tables", 0, "4096 x 32", BALANCED, {NOISE, 4096, 32, 0, 0}},
+    {NULL, 0, "4096 x 32, cents", BALANCED, {CENTS, 4096, 32, 0, 0}},
+    {NULL, 0, "512 x 16", BALANCED, {NOISE, 512, 16, 0, 0}},
+    {NULL, 0, "4096 x 1", BALANCED, {NOISE, 4096, 1, 0, 0}},
+    {NULL, 0, "4096 x 32, C by bits", BITWISE, {NOISE, 4096, 32, 0, 0}},
+    {NULL, 0, "4096 x 32, cents, C by bits", BITWISE, {CENTS, 4096, 32, 0, 0}},
+    {NULL, 0, "512 x 16, C by bits", BITWISE, {NOISE, 512, 16, 0, 0}},
+    {NULL, 0, "4096 x 1, C by bits", BITWISE, {NOISE, 4096, 1, 0, 0}},
     {"A largest file", 0, "verdicts for C", VERDICTS, {.k = 4}},
     {NULL, 0, "report", REPORT, {.k = 1}},
     {NULL, 0, "report, C by doubling too", DOUBLED, {.k = 1}},
@@ -73,6 +81,11 @@ static const struct task tasks[] = {
     {NULL, 1, "1024 x 32, 12 rejected", MASKS, {WINNERS, 1024, 32, 4, 12}},
     {NULL, 1, "1024 x 32, 18 rejected", MASKS, {WINNERS, 1024, 32, 4, 18}},
     {NULL, 1, "1024 x 32, 24 rejected", MASKS, {WINNERS, 1024, 32, 4, 24}},
+    {"Growth with rows, balanced tables", 1, "256 x 32", BALANCED, {NOISE, 256, 32, 0, 0}},
+    {NULL, 1, "512 x 32", BALANCED, {NOISE, 512, 32, 0, 0}},
+    {NULL, 1, "1024 x 32", BALANCED, {NOISE, 1024, 32, 0, 0}},
+    {NULL, 1, "2048 x 32", BALANCED, {NOISE, 2048, 32, 0, 0}},
+    {NULL, 1, "4096 x 32", BALANCED, {NOISE, 4096, 32, 0, 0}},
     {"Order and nearness of the values", 0, "4096 x 1, any order", RUN, {LADDER, 4096, 1, 1, 0}},
     {NULL, 0, "4096 x 1, rising", RUN, {RISING, 4096, 1, 1, 0}},
     {NULL, 0, "4096 x 1, falling", RUN, {FALLING, 4096, 1, 1, 0}},
@@ -127,8 +140,8 @@ static void print_head(const struct task *task)
 
 static void print_facts(size_t i)
 {
-    char cell[4][24];
-    printf("| %-33s | %zu | %5s | %8s |", tasks[i].name, tasks[i].recipe.k,
+    char cell[4][24], k[24];
+    printf("| %-33s | %1s | %5s | %8s |", tasks[i].name, counted(k, sizeof k, tasks[i].recipe.k),
            counted(cell[0], sizeof cell[0], facts[i].steps), counted(cell[1], sizeof cell[1], facts[i].rejected));
     if (tasks[i].kind == MASKS)
         printf(" %5s | %5s |", counted(cell[2], sizeof cell[2], facts[i].looks),
@@ -201,21 +214,23 @@ static long peak(size_t i, const char *which)
 static const char *asked_by(const struct task *task)
 {
     return runs_table(task)                                 ? "run"
+           : balances_table(task)                           ? "balance"
            : task->kind == ADJUSTED || task->kind == MAXIMA ? "figures"
                                                             : "file";
 }
 
 static void print_memory(void)
 {
+    char k[24];
     puts("\nMemory: peak of a process with the input alone and with one call, in KiB; stack of the call, in bytes\n");
     printf("| call    | %-33s | k | input alone | with C | with library | C stack | library stack |\n", "input");
     puts("|---------|-----------------------------------|---"
          "|-------------|--------|--------------|---------|---------------|");
     for (size_t i = 0; i < TASKS; i++)
         if (!tasks[i].grows)
-            printf("| %-7s | %-33s | %zu | %11ld | %6ld | %12ld | %7zu | %13zu |\n", asked_by(&tasks[i]), tasks[i].name,
-                   tasks[i].recipe.k, peak(i, "2"), peak(i, "0"), peak(i, "1"), facts[i].stack[BASELINE],
-                   facts[i].stack[LIBRARY]);
+            printf("| %-7s | %-33s | %1s | %11ld | %6ld | %12ld | %7zu | %13zu |\n", asked_by(&tasks[i]), tasks[i].name,
+                   counted(k, sizeof k, tasks[i].recipe.k), peak(i, "2"), peak(i, "0"), peak(i, "1"),
+                   facts[i].stack[BASELINE], facts[i].stack[LIBRARY]);
 }
 
 int main(int argc, char **argv)

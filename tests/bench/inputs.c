@@ -39,6 +39,13 @@ static void make_noise(const struct recipe *r, double *values)
         values[i] = noise();
 }
 
+/* Two in three within 300 cents. */
+static void make_cents(const struct recipe *r, double *values)
+{
+    for (size_t i = 0; i < r->rows * r->columns; i++)
+        values[i] = (double)(int)(300 * noise());
+}
+
 static void make_winners(const struct recipe *r, double *values)
 {
     make_noise(r, values);
@@ -250,6 +257,10 @@ void make_table(const struct recipe *r, size_t number, struct table *t)
         make_sets(r, values);
     else if (r->pattern == SLOPE)
         make_slope(r, values);
+    else if (r->pattern == NOISE)
+        make_noise(r, values);
+    else if (r->pattern == CENTS)
+        make_cents(r, values);
     else if (r->pattern == LADDER)
         make_ladder(r, values);
     else if (r->pattern == FEW)

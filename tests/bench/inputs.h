@@ -13,6 +13,8 @@ enum pattern {
     FINAL,   /* the same, but of the later sets only the last one has a larger critical value than the first; and in
                 each branch of the walk with two sets or more so many rows can count that it can't be left */
     SLOPE,   /* noise; observed values fall from column to column, and with k = 4 each figure is above those before */
+    NOISE,   /* all values of a column are different */
+    CENTS,   /* noise in whole cents: each column has equal values */
     LADDER,  /* each column lies above all later ones: step 1 rejects k columns, each later step one */
     RISING,  /* as a ladder, with every column in this order from row to row */
     FALLING,

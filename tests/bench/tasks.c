@@ -20,6 +20,8 @@ static size_t prepared;        /* how many there are, a power of two */
 static size_t turn[BOTH];      /* how many calls each implementation has made */
 static double work[MOST_ROWS]; /* the work buffer of all tables */
 
+static double balanced[BOTH][VALUES]; /* the balanced table that each has made last */
+
 /* An answer: its number, the bytes that it fills, and what was read. */
 static struct answer {
     size_t number;
@@ -79,6 +81,25 @@ static void adjusted_library(void)
     const struct table *t = &next(LIBRARY)->table;
     accepted(becardlarder_table_adjusted(t->values, t->length, t->rows, t->columns, t->k, t->observed, t->work,
                                          t->places, answers[LIBRARY].adjusted, MOST_COLUMNS) == 0, "library");
+}
+
+static void balanced_baseline(void)
+{
+    const struct table *t = &next(BASELINE)->table;
+    accepted(balanced_by_codes(t->values, t->length, t->rows, t->columns, balanced[BASELINE], VALUES), "baseline");
+}
+
+static void bitwise_baseline(void)
+{
+    const struct table *t = &next(BASELINE)->table;
+    accepted(balanced_by_bits(t->values, t->length, t->rows, t->columns, balanced[BASELINE], VALUES), "baseline");
+}
+
+static void balanced_library(void)
+{
+    const struct table *t = &next(LIBRARY)->table;
+    accepted(becardlarder_table_balanced(t->values, t->length, t->rows, t->columns, balanced[LIBRARY], VALUES) == 0,
+             "library");
 }
 
 static void verdicts_baseline(void)
@@ -146,6 +167,8 @@ const call *calls_of(const struct task *task)
         [MASKS] = {masks_baseline, run_library},
         [ADJUSTED] = {adjusted_baseline, adjusted_library},
         [MAXIMA] = {maxima_baseline, adjusted_library},
+        [BALANCED] = {balanced_baseline, balanced_library},
+        [BITWISE] = {bitwise_baseline, balanced_library},
         [VERDICTS] = {verdicts_baseline, verdicts_library},
         [REPORT] = {report_baseline, report_library},
         [DOUBLED] = {doubled_baseline, report_library},
@@ -177,9 +200,14 @@ int runs_table(const struct task *task)
     return task->kind == RUN || task->kind == MASKS;
 }
 
+int balances_table(const struct task *task)
+{
+    return task->kind == BALANCED || task->kind == BITWISE;
+}
+
 static int of_tables(const struct task *task)
 {
-    return runs_table(task) || task->kind == ADJUSTED || task->kind == MAXIMA;
+    return runs_table(task) || balances_table(task) || task->kind == ADJUSTED || task->kind == MAXIMA;
 }
 
 size_t inputs_of(const struct task *task)
@@ -188,6 +216,14 @@ size_t inputs_of(const struct task *task)
     if (!of_tables(task))
         return FILES;
     return VALUES / values < MOST_INPUTS ? VALUES / values : MOST_INPUTS;
+}
+
+/* What no balanced table has, into every place for one. */
+static void soil_balanced(void)
+{
+    for (int i = 0; i < BOTH; i++)
+        for (size_t n = 0; n < VALUES; n++)
+            balanced[i][n] = -1;
 }
 
 void prepare(const struct task *task, size_t many)
@@ -205,6 +241,8 @@ void prepare(const struct task *task, size_t many)
         inputs[i].table.work = work;
         inputs[i].table.places = MOST_ROWS;
     }
+    if (balances_table(task)) /* the buffers are there before a call, and its peak memory is not theirs */
+        soil_balanced();
 }
 
 /* ---- the comparison */
@@ -293,6 +331,40 @@ static struct facts compare_adjusted(const struct task *task, const struct table
     return (struct facts){0};
 }
 
+/* How many rows of a column have a value that is at most that of row g. */
+static double rank_of(const struct table *t, size_t g, size_t j)
+{
+    size_t rank = 0;
+    for (size_t h = 0; h < t->rows; h++)
+        rank += t->values[h * t->columns + j] <= t->values[g * t->columns + j];
+    return (double)rank;
+}
+
+/* A balanced column: ranks, by the definition in every 61st row. Where values are equal no row has one of the ranks. */
+static void check_column(const struct task *task, const struct table *t, size_t j)
+{
+    uint8_t met[MOST_ROWS + 1] = {0};
+    for (size_t g = 0; g < t->rows; g++) {
+        double rank = balanced[LIBRARY][g * t->columns + j];
+        same(1 <= rank && rank <= (double)t->rows, task, "not a rank");
+        same(g % 61 != 0 || rank == rank_of(t, g, j), task, "another rank");
+        met[(size_t)rank] = 1;
+    }
+    int ties = memchr(met + 1, 0, t->rows) != NULL;
+    same(ties == (task->recipe.pattern == CENTS), task, "ties in noise, or none in cents");
+}
+
+/* All places of both, those beyond the table too. */
+static struct facts compare_balanced(const struct task *task, const struct table *t)
+{
+    same(memcmp(balanced[BASELINE], balanced[LIBRARY], sizeof balanced[LIBRARY]) == 0, task, "balanced tables differ");
+    for (size_t i = t->length; i < VALUES; i++)
+        same(balanced[LIBRARY][i] == -1, task, "places beyond the table are changed");
+    for (size_t j = 0; j < t->columns; j++)
+        check_column(task, t, j);
+    return (struct facts){0};
+}
+
 /* A table is what its recipe says. In a ladder one column falls in each step after the first, which rejects k. */
 static void check_recipe(const struct task *task, const struct facts *facts)
 {
@@ -335,16 +407,19 @@ static struct facts compare_one(const struct task *task, const struct input *in)
 {
     size_t stack[BOTH];
     memset(answers, 0, sizeof answers);
+    if (balances_table(task))
+        soil_balanced();
     for (int i = 0; i < BOTH; i++) {
-        soil_work(in->table.rows);
+        soil_work(balances_table(task) ? 0 : in->table.rows);
         stack[i] = stack_of(calls_of(task)[i]);
         check_cleared(task);
     }
     same(answers[BASELINE].number == answers[LIBRARY].number, task, "results differ");
     same(memcmp(answers[BASELINE].bytes, answers[LIBRARY].bytes, LONGEST_REPORT) == 0, task, "bytes differ");
-    struct facts facts = runs_table(task)  ? compare_run(task, &in->table)
-                         : of_tables(task) ? compare_adjusted(task, &in->table)
-                                           : compare_file(task, in);
+    struct facts facts = runs_table(task)       ? compare_run(task, &in->table)
+                         : balances_table(task) ? compare_balanced(task, &in->table)
+                         : of_tables(task)      ? compare_adjusted(task, &in->table)
+                                                : compare_file(task, in);
     if (runs_table(task))
         check_recipe(task, &facts);
     memcpy(facts.stack, stack, sizeof stack);

@@ -10,6 +10,8 @@ enum kind {
     MASKS,    /* the same, against a baseline with the rows as masks */
     ADJUSTED, /* its adjusted figures */
     MAXIMA,   /* the same, against a baseline that counts the rows' maxima first */
+    BALANCED, /* its balanced table */
+    BITWISE,  /* the same, against a baseline that sorts by all bits of the values */
     VERDICTS, /* the call for C on a largest file */
     REPORT,   /* its report */
     DOUBLED,  /* its report, against a baseline that makes its table by doubling too */
@@ -23,7 +25,7 @@ struct task {
     int grows;         /* within a group: time is compared with the task before */
     const char *name;
     enum kind kind;
-    struct recipe recipe; /* of a file only pattern and k */
+    struct recipe recipe; /* of a file only pattern and k; of a balanced table no k */
 };
 
 /* The two implementations, where something is said of each. */
@@ -37,8 +39,9 @@ struct facts {
     size_t steps, rejected, sets, looks, rises, stack[BOTH];
 };
 
-/* Whether a task's input is a table that is run. */
+/* Whether a task's input is a table that is run, or one that is balanced. */
 int runs_table(const struct task *task);
+int balances_table(const struct task *task);
 
 /* How many different inputs of a task are called by turns: tables of 131,072 values together, and 16 files. */
 size_t inputs_of(const struct task *task);

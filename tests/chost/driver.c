@@ -6,9 +6,12 @@
  *   T  table length, rows, columns, k, a, b, observed, work length, buffer length; the table's values
  *   G  file length, figures length; the file's bytes. Adjusted figures of a trial
  *   A  table length, rows, columns, k, observed, work length, figures length; the table's values. Adjusted figures
+ *   V  as F. Verdicts of the balanced table of a trial
+ *   B  table length, rows, columns, buffer length; the table's values. The balanced table
+ *   C  as A. Two calls: the balanced table, and then its adjusted figures; the answer is that of the second
  * The answer on standard output is the result (32 bits), then every place of each lent buffer and GUARD places beyond
  * it; of a G frame the last buffer has one place, for the rows. All of these hold MARK before the call, in each byte
- * but in the work buffer as a value. At the end standard error tells the most stack that a call has used. The build
+ * but where places are f64 as a value. At the end standard error tells the most stack that a call has used. The build
  * gives MARK and GUARD.
  */
 #include <stdio.h>
@@ -26,7 +29,7 @@ static ucontext_t driver, call;
 /* The case: its numbers and data, and the answer. */
 static uint64_t n[9];
 static void *data;
-static double *work;
+static double *work, *balanced;
 static uint8_t *verdicts;
 static uint32_t *figures, *rows;
 static uint32_t result;
@@ -85,6 +88,24 @@ static void call_table_adjusted(void)
                                          lent(figures, n[6]), n[6]);
 }
 
+static void call_file_balanced(void)
+{
+    result = becardlarder_trial_balanced_verdicts(lent(data, n[0]), n[0], lent(verdicts, n[1]), n[1]);
+}
+
+static void call_table_balanced(void)
+{
+    result = becardlarder_table_balanced(lent(data, n[0]), n[0], n[1], n[2], lent(balanced, n[3]), n[3]);
+}
+
+static void call_both(void)
+{
+    result = becardlarder_table_balanced(data, n[0], n[1], n[2], balanced, n[0]);
+    if (result == 0)
+        result = becardlarder_table_adjusted(balanced, n[0], n[1], n[2], n[3], n[4], lent(work, n[5]), n[5],
+                                             lent(figures, n[6]), n[6]);
+}
+
 /* Makes a call on the measured stack. */
 static void on_stack(void (*f)(void))
 {
@@ -130,18 +151,25 @@ static void lend_figures(size_t length)
     figures = marked((length + GUARD) * sizeof *figures);
 }
 
-static void lend_work(size_t length)
+/* So many places for values and a guard, each marked. */
+static double *marked_values(size_t length)
 {
-    work = places((length + GUARD) * sizeof *work);
+    double *values = places((length + GUARD) * sizeof *values);
     for (size_t i = 0; i < length + GUARD; i++)
-        work[i] = MARK;
+        values[i] = MARK;
+    return values;
 }
 
-static void file_case(void)
+static void lend_work(size_t length)
+{
+    work = marked_values(length);
+}
+
+static void file_case(void (*call_it)(void))
 {
     read_case(2, sizeof(uint8_t));
     lend_verdicts(n[1]);
-    on_stack(call_file);
+    on_stack(call_it);
     write_all(&result, sizeof result);
     write_all(verdicts, n[1] + GUARD);
     free(data);
@@ -176,36 +204,60 @@ static void file_adjusted_case(void)
     free(rows);
 }
 
-static void table_adjusted_case(void)
+static void table_adjusted_case(void (*call_it)(void))
 {
     read_case(7, sizeof(double));
+    balanced = marked_values(n[0]); /* a place for each value; of a C frame it takes the balanced table */
     lend_work(n[5]);
     lend_figures(n[6]);
-    on_stack(call_table_adjusted);
+    on_stack(call_it);
     write_all(&result, sizeof result);
     write_all(work, (n[5] + GUARD) * sizeof *work);
     write_all(figures, (n[6] + GUARD) * sizeof *figures);
     free(data);
+    free(balanced);
     free(work);
     free(figures);
+}
+
+static void table_balanced_case(void)
+{
+    read_case(4, sizeof(double));
+    balanced = marked_values(n[3]);
+    on_stack(call_table_balanced);
+    write_all(&result, sizeof result);
+    write_all(balanced, (n[3] + GUARD) * sizeof *balanced);
+    free(data);
+    free(balanced);
+}
+
+/* Puts the case that a frame of this kind has. */
+static void put_case(int kind)
+{
+    if (kind == 'F')
+        file_case(call_file);
+    else if (kind == 'T')
+        table_case();
+    else if (kind == 'G')
+        file_adjusted_case();
+    else if (kind == 'A')
+        table_adjusted_case(call_table_adjusted);
+    else if (kind == 'V')
+        file_case(call_file_balanced);
+    else if (kind == 'B')
+        table_balanced_case();
+    else if (kind == 'C')
+        table_adjusted_case(call_both);
+    else
+        fail("unknown call");
 }
 
 int main(void)
 {
     int kind;
     memset(stack, PAINT, STACK);
-    while ((kind = getchar()) != EOF) {
-        if (kind == 'F')
-            file_case();
-        else if (kind == 'T')
-            table_case();
-        else if (kind == 'G')
-            file_adjusted_case();
-        else if (kind == 'A')
-            table_adjusted_case();
-        else
-            fail("unknown call");
-    }
+    while ((kind = getchar()) != EOF)
+        put_case(kind);
     if (fflush(stdout) != 0)
         fail("answer not written");
     fprintf(stderr, "stack %zu\n", stack_used());

@@ -57,6 +57,17 @@ class TableCase:
     viewed: bool = False
 
 
+@dataclass(frozen=True)
+class BalancedCase:
+    """A lent table to be balanced, and a buffer of so many places for it."""
+
+    name: str
+    values: tuple
+    rows: int
+    columns: int
+    out_room: int
+
+
 class WalkCase(TableCase):
     """A run that is begun over a lent table and taken step by step until a step is refused."""
 

@@ -10,6 +10,7 @@ run.py        a run taken step by step: begin, step, the clauses of refusal 14
 trial.py      the trial record: its refusals, its table, its full run
 trialfile.py  reader and writer of trial files
 adjusted.py   adjusted figures of tables and trials, by trying every e
+balanced.py   balanced tables, their full runs, and the text of the program `balanced`
 report.py     the text of the report program
 sheet.py      the text of the program `adjusted`
 view.py       a place of a view of lent values

@@ -1,8 +1,9 @@
 """The calls for C (document 01, "Report and C call"), and the same for a host that holds a table.
 
-Those for adjusted figures (document 02, §1) come last.
+Those for adjusted figures (document 02, §1) and for balanced tables (§3) come last.
 """
 
+from . import balanced
 from .adjusted import figures_refusal, table_figures, trial_figures
 from .refusals import Refused, fill, too_short
 from .table import Rejected, full_run as run_table, table_refusal
@@ -15,7 +16,7 @@ def steps(run) -> bytes:
     return bytes(v.step if isinstance(v, Rejected) else 0 for v in run.verdicts)
 
 
-def on_file(data: bytes, buffer: bytearray) -> int:
+def on_file(data: bytes, buffer: bytearray, run_of=full_run) -> int:
     """The number of rejected offers, or 100 plus the refusal number.
 
     The buffer's first bytes hold, per offer, the rejecting step or 0. A buffer
@@ -26,7 +27,7 @@ def on_file(data: bytes, buffer: bytearray) -> int:
         return 100 + trial.number
     if too_short(buffer, trial.offers):
         return 112
-    run = full_run(trial)
+    run = run_of(trial)
     fill(buffer, steps(run))
     return run.rejected()
 
@@ -77,3 +78,14 @@ def adjusted_on_table(values, rows, columns, k, observed, work, figures) -> int:
         return 112
     fill(figures, table_figures(values, rows, columns, k, observed, work))
     return 0
+
+
+def balanced_on_file(data: bytes, buffer: bytearray) -> int:
+    """As `on_file`, of the balanced full run."""
+    return on_file(data, buffer, balanced.trial_run)
+
+
+def balanced_on_table(values, rows, columns, out) -> int:
+    """0, or 100 plus the refusal number. The first places of `out` hold the balanced table."""
+    answer = balanced.table_balanced(values, rows, columns, out)
+    return 100 + answer.number if isinstance(answer, Refused) else 0

@@ -7,12 +7,12 @@ from .trial import Trial, full_run, rows_of
 from .trialfile import read
 
 
-def report(data: bytes) -> str:
-    """All that the program prints for a file on standard input."""
+def report(data: bytes, run_of=full_run) -> str:
+    """All that the program prints for a file on standard input, with this full run of its trial."""
     trial = read(data)
     if isinstance(trial, Refused):
         return f"refused {trial.number}\n"
-    return "".join(f"{line}\n" for line in report_lines(trial, full_run(trial)))
+    return "".join(f"{line}\n" for line in report_lines(trial, run_of(trial)))
 
 
 def lent_report(data: bytes, buffer: bytearray):

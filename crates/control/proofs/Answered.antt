@@ -1,22 +1,23 @@
 -- Demand 3 over what the functions answer: the verdicts that a caller finds are the method's.
 --   verdicts-told      the verdicts of an accepted full run
 --   tables-answered, trials-answered     both forms, with buffers that are long enough
+--   balanced-tables-answered, balanced-trials-answered     the same of balanced full runs
 use Prim.Native.Nat.{ℕ, _-_, _*_, _≤_, _<_}
 use native.Mathlib.Omega.{arith}
 use mathlib.Core.Path.{_≡_, refl, sym, ap, ap₂, _∙_, subst}
 use mathlib.Core.Bool.{Bool}
-use mathlib.Core.List.{List, [], _∷_, map}
+use mathlib.Core.List.{List, [], _∷_, _++_, map}
 use lib.ListN.{length, replicate, length-map}
 use lib.Seq.{take-at}
-use lib.Dec.{T, leb}
 use lib.Ieee.{Float}
-use borrow.Author.Tests.{le-ltb}
 use Rattle.order.specs.Order.{plusZero}
-use Rattle.order.proofs.Counts.{countBelow-le}
+use Rattle.order.specs.Lists.{rowsOf}
 use Rattle.order.proofs.Lists.{tabulate-length}
-use Rattle.refusals.specs.Limits.{allowance}
+use Rattle.refusals.specs.Answers.{Checks, answer, firstRefusal}
 use Rattle.refusals.specs.Buffers.{tooShort}
-use Rattle.refusals.proofs.Answers.{none-first, first-passes, accepted}
+use Rattle.refusals.specs.Limits.{allowance}
+use Rattle.refusals.proofs.Answers.{answered, first-passes}
+use Rattle.refusals.proofs.Buffers.{lent-passes}
 use Rattle.runs.specs.Stepdown.{Outcome, stepsOf, verdictOf, fullRun}
 use Rattle.runs.specs.FullRuns.{decision, acceptedRun, refusedRun, verdictsIn}
 use Rattle.runs.specs.Tables.{tableStart, tableRun}
@@ -24,16 +25,18 @@ use Rattle.runs.specs.declared.Verdict.{Verdict}
 use Rattle.runs.specs.declared.Verdict.the-variants.{Kept}
 use Rattle.stepdown.specs.Refusals.{tableChecks, tableRefusal, tableRunChecks}
 use Rattle.stepdown.specs.Answers.{fullAnswer}
+use Rattle.balance.specs.Balance.{balancedTable}
+use Rattle.tablebalance.specs.Answers.{balancedRun, balancedChecks, balancedAnswer}
 use Rattle.trial.specs.Record.{Setting, Keeps}
 use Rattle.trial.specs.Exchange.{rowTotal, tableOf}
-use Rattle.trial.specs.Refusals.{trialRefusal}
+use Rattle.trial.specs.Refusals.{trialChecks, trialRefusal}
 use Rattle.trial.specs.declared.Trial.{Trial}
-use Rattle.trial.proofs.Calls.{size-is}
-use Rattle.trialrun.specs.TrialRuns.{trialRun, trialAnswer}
-use Rattle.trialrun.proofs.Runs.{run-free}
-use Rattle.control.proofs.Tables.{tables}
-use Rattle.control.proofs.Trials.{trials, same-total}
-use Rattle.control.specs.Statements.{rejectedAmong, runsThatReject, SameOn, ListedOn}
+use Rattle.trialrun.specs.TrialRuns.{trialRun, runCallChecks, trialAnswer}
+use Rattle.trialbalance.specs.TrialBalance.{trialBalancedRun, trialBalancedAnswer}
+use Rattle.control.proofs.General.{counted}
+use Rattle.control.proofs.Tables.{tables, balanced-tables}
+use Rattle.control.proofs.Trials.{trials, balanced-trials, same-total}
+use Rattle.control.specs.Statements.{runsThatReject, SameOn, ListedOn}
 
 undecided : (vs : List Verdict) → map (λ d. d .verdict) (map decision vs) ≡ vs
 undecided [] = refl
@@ -43,58 +46,77 @@ pub verdicts-told : (n : ℕ) (o : Outcome) → length (o .verdicts) ≡ n → v
 unfolding acceptedRun
 verdicts-told n o h = ap (map (λ d. d .verdict)) (take-at (map decision (o .verdicts)) (replicate (32 - length (map decision (o .verdicts))) (decision (Kept plusZero))) n (length-map (o .verdicts) decision ∙ h)) ∙ undecided (o .verdicts)
 
--- runs that show the same verdicts are counted alike
-counted : (k n : ℕ) (idle : ℕ → Bool) (vs ws : ℕ → List Verdict) → ((g : ℕ) → g < n → vs g ≡ ws g) → runsThatReject k n idle vs ≤ runsThatReject k n idle ws
-unfolding runsThatReject
-counted k n idle vs ws h = countBelow-le n (λ g. leb k (rejectedAmong idle (vs g))) (λ g. leb k (rejectedAmong idle (ws g))) (λ g l t. subst (λ (x : List Verdict). T (leb k (rejectedAmong idle x))) (h g l) t)
+-- and of a call that nothing refuses
+shown : (n : ℕ) (cs : Checks) (o : Outcome) → firstRefusal cs ≡ 0 → length (o .verdicts) ≡ n → verdictsIn n (answer cs (acceptedRun o) refusedRun) ≡ o .verdicts
+shown n cs o ok h = ap (verdictsIn n) (answered cs (acceptedRun o) refusedRun .gives ok) ∙ verdicts-told n o h
+
+run-verdicts : (t : List Float) (rows columns k a b o : ℕ) → length (tableRun t rows columns k a b o .verdicts) ≡ columns
+unfolding tableRun fullRun
+run-verdicts t rows columns k a b o = tabulate-length columns (λ j. verdictOf (stepsOf (rowsOf rows columns t) (tableStart rows columns k a b o)) j)
 
 -- ---- tables
 
-module _ (t : List Float) (rows columns k a b o : ℕ) where
-  verdicts-length : length (tableRun t rows columns k a b o .verdicts) ≡ columns
-  unfolding tableRun fullRun
-  verdicts-length = tabulate-length columns (λ j. verdictOf (stepsOf (Rattle.order.specs.Lists.rowsOf rows columns t) (tableStart rows columns k a b o)) j)
+module _ (rows columns k a b : ℕ) (t : List Float) (idle : ℕ → Bool) (runs : ℕ → List Float) (o : ℕ) (ok : tableRefusal t rows columns k a b o ≡ 0)
+    (oks : (g : ℕ) → g < rows → tableRefusal (runs g) rows columns k a b g ≡ 0)
+    (same : (g : ℕ) → g < rows → SameOn idle rows columns t (runs g)) where
+  abbrev e : ℕ
+  e = allowance rows a b
 
-  pub table-answered : (places : ℕ) → rows ≤ places → tableRefusal t rows columns k a b o ≡ 0 → fullAnswer t rows columns k a b o places ≡ acceptedRun (tableRun t rows columns k a b o)
-  unfolding fullAnswer tableRefusal
-  table-answered places h ok =
-      sym (accepted (acceptedRun (tableRun t rows columns k a b o)) refusedRun (tableRunChecks t rows columns k a b o places) 0
-      (sym (first-passes (tableChecks t rows columns k a b o) (tooShort places rows) 0 (sym ok) refl ∙ none-first (tooShort places rows) (le-ltb places rows h, tt))) refl)
+  run-passes : (work : ℕ) → rows ≤ work → (g : ℕ) → g < rows → firstRefusal (tableRunChecks (runs g) rows columns k a b g work) ≡ 0
+  unfolding tableRefusal
+  run-passes work h g l = lent-passes (tableChecks (runs g) rows columns k a b g) work rows (oks g l) h
 
-  table-shown : (places : ℕ) → rows ≤ places → tableRefusal t rows columns k a b o ≡ 0 → verdictsIn columns (fullAnswer t rows columns k a b o places) ≡ tableRun t rows columns k a b o .verdicts
-  table-shown places h ok = ap (verdictsIn columns) (table-answered places h ok) ∙ verdicts-told columns (tableRun t rows columns k a b o) verdicts-length
+  pub tables-answered : (work : ℕ) → rows ≤ work → runsThatReject k rows idle (λ g. verdictsIn columns (fullAnswer (runs g) rows columns k a b g work)) ≤ e
+  unfolding fullAnswer
+  tables-answered work h =
+      counted k rows e idle _ _
+      (λ g l. shown columns (tableRunChecks (runs g) rows columns k a b g work) (tableRun (runs g) rows columns k a b g) (run-passes work h g l) (run-verdicts (runs g) rows columns k a b g))
+      (tables rows columns k a b t idle runs o ok oks same)
 
-pub tables-answered : (rows columns k a b : ℕ) (t : List Float) (idle : ℕ → Bool) (runs : ℕ → List Float) (o : ℕ) → tableRefusal t rows columns k a b o ≡ 0
-    → ((g : ℕ) → g < rows → tableRefusal (runs g) rows columns k a b g ≡ 0)
-    → ((g : ℕ) → g < rows → SameOn idle rows columns t (runs g))
-    → (places : ℕ) → rows ≤ places
-    → runsThatReject k rows idle (λ g. verdictsIn columns (fullAnswer (runs g) rows columns k a b g places)) ≤ allowance rows a b
-tables-answered rows columns k a b t idle runs o ok oks same places h =
-    omega (arith, counted k rows idle _ _ (λ g l. table-shown (runs g) rows columns k a b g places h (oks g l)), tables rows columns k a b t idle runs o ok oks same)
+  pub balanced-tables-answered : (places work : ℕ) → rows * columns ≤ places → rows ≤ work
+      → runsThatReject k rows idle (λ g. verdictsIn columns (balancedAnswer (runs g) rows columns k a b g places work)) ≤ e
+  unfolding balancedAnswer balancedRun
+  balanced-tables-answered places work r h =
+      counted k rows e idle _ _
+      (λ g l. shown columns (balancedChecks (runs g) rows columns k a b g places work) (balancedRun (runs g) rows columns k a b g)
+      (lent-passes (tableRunChecks (runs g) rows columns k a b g work) places (rows * columns) (run-passes work h g l) r) (run-verdicts (balancedTable (runs g) rows columns) rows columns k a b g))
+      (balanced-tables rows columns k a b t idle runs o ok oks same)
 
 -- ---- trials
 
 module _ (t : Trial) where
-  pub trial-answered : (places work : ℕ) → rowTotal t * t .shape .offers ≤ places → rowTotal t ≤ work → trialRefusal t ≡ 0 → trialAnswer t places work ≡ acceptedRun (trialRun t)
-  unfolding trialAnswer
-  trial-answered places work h l ok = sym (run-free t (record { refusal = 0; rows = rowTotal t; columns = t .shape .offers }) (size-is t 0 (sym ok) refl) (acceptedRun (trialRun t)) refusedRun places work refl h l)
+  trial-passes : (places work : ℕ) → rowTotal t * t .shape .offers ≤ places → rowTotal t ≤ work → trialRefusal t ≡ 0 → firstRefusal (runCallChecks t places work) ≡ 0
+  unfolding trialRefusal
+  trial-passes places work h l ok =
+      let table = tooShort places (rowTotal t * t .shape .offers) in
+      first-passes (trialChecks t) (table ++ tooShort work (rowTotal t)) 0 (sym ok) refl
+      ∙ lent-passes table work (rowTotal t) (lent-passes [] places (rowTotal t * t .shape .offers) refl h) l
 
-  trial-shown : (places work : ℕ) → rowTotal t * t .shape .offers ≤ places → rowTotal t ≤ work → trialRefusal t ≡ 0 → verdictsIn (t .shape .offers) (trialAnswer t places work) ≡ trialRun t .verdicts
+  trial-verdicts : length (trialRun t .verdicts) ≡ t .shape .offers
   unfolding trialRun
-  trial-shown places work h l ok = ap (verdictsIn (t .shape .offers)) (trial-answered places work h l ok) ∙ verdicts-told (t .shape .offers) (trialRun t) (verdicts-length (tableOf t) (rowTotal t) (t .shape .offers) (t .shape .k) (t .level .a) (t .level .b) 0)
+  trial-verdicts = run-verdicts (tableOf t) (rowTotal t) (t .shape .offers) (t .shape .k) (t .level .a) (t .level .b) 0
+
+  balanced-verdicts : length (trialBalancedRun t .verdicts) ≡ t .shape .offers
+  unfolding trialBalancedRun
+  balanced-verdicts = run-verdicts (balancedTable (tableOf t) (rowTotal t) (t .shape .offers)) (rowTotal t) (t .shape .offers) (t .shape .k) (t .level .a) (t .level .b) 0
 
 module _ (t : Trial) (idle : ℕ → Bool) (runs : ℕ → Trial) (ok : trialRefusal t ≡ 0)
     (oks : (g : ℕ) → g < rowTotal t → trialRefusal (runs g) ≡ 0)
     (keeps : (g : ℕ) → g < rowTotal t → Keeps t (runs g))
     (listing : (g : ℕ) → g < rowTotal t → ListedOn idle g t (runs g)) where
-  pub trials-answered : (places work : ℕ) → rowTotal t * t .shape .offers ≤ places → rowTotal t ≤ work
-      → runsThatReject (t .shape .k) (rowTotal t) idle (λ g. verdictsIn (t .shape .offers) (trialAnswer (runs g) places work)) ≤ allowance (rowTotal t) (t .level .a) (t .level .b)
-  trials-answered places work h l =
-      omega (arith, counted (t .shape .k) (rowTotal t) idle _ _ shown, trials t idle runs ok oks keeps listing)
-    where
-      shown : (g : ℕ) → g < rowTotal t → verdictsIn (t .shape .offers) (trialAnswer (runs g) places work) ≡ trialRun (runs g) .verdicts
-      shown g m =
-          let q = same-total t (runs g) (keeps g m) in
-          let p = ap (λ (s : Setting). s .shape .offers) (keeps g m) in
-          ap (λ (n : ℕ). verdictsIn n (trialAnswer (runs g) places work)) (sym p)
-          ∙ trial-shown (runs g) places work (subst (λ (n : ℕ). n ≤ places) (sym (ap₂ (λ (x y : ℕ). x * y) q p)) h) (omega arith) (oks g m)
+  module _ (places work : ℕ) (h : rowTotal t * t .shape .offers ≤ places) (l : rowTotal t ≤ work) where
+    trial-shown : (out : Trial → Outcome) → ((u : Trial) → length (out u .verdicts) ≡ u .shape .offers) → (g : ℕ) → g < rowTotal t
+        → verdictsIn (t .shape .offers) (answer (runCallChecks (runs g) places work) (acceptedRun (out (runs g))) refusedRun) ≡ out (runs g) .verdicts
+    trial-shown out long g m =
+        let q = same-total t (runs g) (keeps g m) in
+        let p = ap (λ (s : Setting). s .shape .offers) (keeps g m) in
+        shown (t .shape .offers) (runCallChecks (runs g) places work) (out (runs g))
+        (trial-passes (runs g) places work (subst (λ (n : ℕ). n ≤ places) (sym (ap₂ (λ (x y : ℕ). x * y) q p)) h) (omega arith) (oks g m)) (long (runs g) ∙ p)
+
+    pub trials-answered : runsThatReject (t .shape .k) (rowTotal t) idle (λ g. verdictsIn (t .shape .offers) (trialAnswer (runs g) places work)) ≤ allowance (rowTotal t) (t .level .a) (t .level .b)
+    unfolding trialAnswer
+    trials-answered = counted (t .shape .k) (rowTotal t) _ idle _ _ (trial-shown trialRun trial-verdicts) (trials t idle runs ok oks keeps listing)
+
+    pub balanced-trials-answered : runsThatReject (t .shape .k) (rowTotal t) idle (λ g. verdictsIn (t .shape .offers) (trialBalancedAnswer (runs g) places work)) ≤ allowance (rowTotal t) (t .level .a) (t .level .b)
+    unfolding trialBalancedAnswer
+    balanced-trials-answered = counted (t .shape .k) (rowTotal t) _ idle _ _ (trial-shown trialBalancedRun balanced-verdicts) (balanced-trials t idle runs ok oks keeps listing)

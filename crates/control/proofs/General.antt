@@ -1,6 +1,10 @@
 -- The general form of demand 3. X is a table, and for each of its rows g there is a run over a table Y g of its own, in which the
 -- idle columns of Y g have the rows of X in some order and the observed row shows the idle values of X's row g.
 -- Then k or more idle columns are rejected in at most e of the runs.
+--   keysAt K row        the values of a row at K, as numbers
+--   Member, Family      what is asked of run g, and of X and all the runs
+--   general             the theorem
+--   counted             the bound, for runs that show the same verdicts
 use Prim.Native.Nat.{ℕ, _≤_, _<_}
 use native.Mathlib.Omega.{arith}
 use native.Mathlib.Decide.{decLe}
@@ -172,14 +176,23 @@ pub record Member (n : ℕ) (X : List (List Float)) (idle : ℕ → Bool) (live 
   pub rows : (p : List ℕ → Bool) → count p (map (keysAt (tabulate n idle)) X) ≤ count p (map (keysAt (tabulate n idle)) Y)
   pub row : keysAt (tabulate n idle) (getD Y o []) ≡ keysAt (tabulate n idle) (getD X g [])
 
-module _ (n k e m : ℕ) (X : List (List Float)) (idle : ℕ → Bool) (live : ℕ → ℕ) (Y : ℕ → List (List Float)) (o : ℕ → ℕ)
-    (sound : Sound n X) (pos : 0 < k) (rare : e < length X)
-    (member : (g : ℕ) → g < length X → Member n X idle (live g) (Y g) (o g) g) where
+-- X has M rows of n columns, and each of them its run
+pub record Family (n k e M : ℕ) (X : List (List Float)) (idle : ℕ → Bool) (live : ℕ → ℕ) (Y : ℕ → List (List Float)) (o : ℕ → ℕ) : Type 0 where
+  pub sound : Sound n X
+  pub tall : length X ≡ M
+  pub tolerance : 0 < k
+  pub rare : e < M
+  pub member : (g : ℕ) → g < M → Member n X idle (live g) (Y g) (o g) g
+
+module _ {n k e M : ℕ} {X : List (List Float)} {idle : ℕ → Bool} {live : ℕ → ℕ} {Y : ℕ → List (List Float)} {o : ℕ → ℕ} (f : Family n k e M X idle live Y o) where
   v : ℕ
   v = key (criticalValue k e X (K n idle))
 
   bad : ℕ → Bool
-  bad g = leb k (rejectedAmong idle (verdicts m n (live g) (Y g) k e (o g)))
+  bad g = leb k (rejectedAmong idle (verdicts M n (live g) (Y g) k e (o g)))
+
+  rare : e < length X
+  rare = omega (arith, f .tall, f .rare)
 
   -- a run that rejects k or more idle columns observes a row with k idle values above c of the idle columns
   bad-row : k ≤ size (K n idle) → (g : ℕ) → g < length X → T (bad g) → T (many-above k v (keysAt (K n idle) (getD X g [])))
@@ -187,16 +200,16 @@ module _ (n k e m : ℕ) (X : List (List Float)) (idle : ℕ → Bool) (live : �
   bad-row wide g l t =
       subst (λ (ks : List ℕ). T (many-above k v ks)) (q .row) (subst (λ (b : Bool). T b) (sym (above-keys k v (K n idle) (getD (Y g) (o g) [])))
       (le→leb k (count (λ x. ltb v (key x)) (within (K n idle) (getD (Y g) (o g) [])))
-      (bad-above n idle m (live g) (Y g) k e (o g) (q .sound) (q .lives) pos (q .seen) (omega (arith, q .tall)) wide v
-      (rows-bound n k e (K n idle) (K-length n idle) pos wide X (Y g) sound (q .sound) rare (omega (arith, q .tall)) (q .rows))
-      (leb→le k (rejectedAmong idle (verdicts m n (live g) (Y g) k e (o g))) t))))
+      (bad-above n idle M (live g) (Y g) k e (o g) (q .sound) (q .lives) (f .tolerance) (q .seen) (omega (arith, rare, q .tall)) wide v
+      (rows-bound n k e (K n idle) (K-length n idle) (f .tolerance) wide X (Y g) (f .sound) (q .sound) rare (omega (arith, rare, q .tall)) (q .rows))
+      (leb→le k (rejectedAmong idle (verdicts M n (live g) (Y g) k e (o g))) t))))
     where
       q : Member n X idle (live g) (Y g) (o g) g
-      q = member g l
+      q = f .member g (omega (arith, f .tall))
 
-  pub general : runsThatReject k (length X) idle (λ g. fullRun (Y g) (firstState m n k e (o g) (live g)) .verdicts) ≤ e
+  pub general : runsThatReject k M idle (λ g. fullRun (Y g) (firstState M n k e (o g) (live g)) .verdicts) ≤ e
   unfolding runsThatReject bad v
-  general = go (decLe k (size (K n idle)))
+  general = subst (λ (m : ℕ). countBelow m bad ≤ e) (f .tall) (go (decLe k (size (K n idle))))
     where
       go : Dec (k ≤ size (K n idle)) → countBelow (length X) bad ≤ e
       go (yes wide) =
@@ -205,12 +218,21 @@ module _ (n k e m : ℕ) (X : List (List Float)) (idle : ℕ → Bool) (live : �
             countBelow-le (length X) bad (λ g. many-above k v (keysAt (K n idle) (getD X g []))) (bad-row wide),
             countBelow-list (λ row. many-above k v (keysAt (K n idle) row)) X [],
             count-map (keysAt (K n idle)) (many-above k v) X,
-            few-rows n k e (K n idle) (K-length n idle) pos wide X sound rare,
+            few-rows n k e (K n idle) (K-length n idle) (f .tolerance) wide X (f .sound) rare,
           )
       go (no narrow) =
           omega (
             arith,
             countBelow-le (length X) bad (λ _. false)
-                (λ g l t. absurd (omega (arith, narrow, leb→le k (rejectedAmong idle (verdicts m n (live g) (Y g) k e (o g))) t, few-idle n idle m (live g) (Y g) k e (o g)))),
+                (λ g l t. absurd (omega (arith, narrow, leb→le k (rejectedAmong idle (verdicts M n (live g) (Y g) k e (o g))) t, few-idle n idle M (live g) (Y g) k e (o g)))),
             countBelow-none (length X),
           )
+
+-- runs that show the same verdicts are counted alike
+pub counted : (k n e : ℕ) (idle : ℕ → Bool) (vs ws : ℕ → List Verdict) → ((g : ℕ) → g < n → vs g ≡ ws g) → runsThatReject k n idle ws ≤ e → runsThatReject k n idle vs ≤ e
+unfolding runsThatReject
+counted k n e idle vs ws h bound =
+    omega (
+      arith,
+      countBelow-le n (λ g. leb k (rejectedAmong idle (vs g))) (λ g. leb k (rejectedAmong idle (ws g))) (λ g l t. subst (λ (x : List Verdict). T (leb k (rejectedAmong idle x))) (h g l) t),
+    )

@@ -1,5 +1,6 @@
 pub mod OneRun
 pub mod General
+pub mod Balanced
 pub mod Reorder
 pub mod Tables
 pub mod Listings

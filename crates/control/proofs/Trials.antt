@@ -1,15 +1,17 @@
 -- Demand 3 for trials: on the idle offers, row h of run g is the row of the trial that `moved` tells.
-use Prim.Native.Nat.{ℕ, _≤_, _<_}
+--   same-total          trials that keep all but the differences have as many rows
+--   trials              for full runs of trials whose idle offers are listed
+--   balanced-trials     for balanced full runs of such trials
+use Prim.Native.Nat.{ℕ, _^_, _≤_, _<_}
 use native.Mathlib.Omega.{arith}
 use mathlib.Core.Path.{_≡_, sym, ap, ap₂, _∙_, subst}
 use mathlib.Core.Bool.{Bool, false}
 use mathlib.Core.List.{List, []}
 use lib.ListN.{length, getD}
-use lib.Dec.{T, leb}
+use lib.Dec.{T}
 use lib.IntN.{ℤ}
 use lib.Ieee.{Float, nan, binary64, ofInt}
 use Rattle.order.specs.Lists.{tabulate}
-use Rattle.order.proofs.Counts.{countBelow-le}
 use Rattle.order.proofs.Keys.{key}
 use Rattle.order.proofs.Lists.{getD-map, tabulate-getD, rowsOf-length}
 use Rattle.order.proofs.Rows.{Sound}
@@ -21,19 +23,23 @@ use Rattle.runs.specs.Tables.{tableStart, tableRun}
 use Rattle.runs.specs.declared.State.{State}
 use Rattle.trial.specs.Designs.{unitsOf, rowCount, entryOf}
 use Rattle.trial.specs.Record.{figuresOf, Setting, Keeps}
-use Rattle.trial.specs.Exchange.{byOffer, rowTotal, rowOf, trialRows}
+use Rattle.trial.specs.Exchange.{byOffer, rowTotal, rowOf, trialRows, tableOf}
 use Rattle.trial.specs.Refusals.{trialRefusal}
 use Rattle.trial.specs.declared.Design.{Design}
 use Rattle.trial.specs.declared.Shape.{Shape}
 use Rattle.trial.specs.declared.Trial.{Trial}
 use Rattle.trial.proofs.Accepted.{Accepted, accepted}
-use Rattle.trial.proofs.Tables.{rowOf-length, trialRows-length, trialRows-row, trialRows-sound, tableOf-rows, rowTotal-some}
+use Rattle.trial.proofs.Tables.{rowOf-length, trialRows-length, trialRows-row, trialRows-sound, tableOf-rows, tableOf-length, rowTotal-some}
 use Rattle.trialrun.specs.TrialRuns.{trialRun}
-use Rattle.control.proofs.General.{keysAt, Member, general}
+use Rattle.balance.specs.Balance.{balancedRows}
+use Rattle.tablebalance.proofs.Counted.{balancedRun-rows}
+use Rattle.trialbalance.specs.TrialBalance.{trialBalancedRun}
+use Rattle.control.proofs.General.{keysAt, Member, Family, general, counted}
+use Rattle.control.proofs.Balanced.{balanced-family}
 use Rattle.control.proofs.Listings.{moved, moved-back, moved-lt, moved-first, entry-listed}
 use Rattle.control.proofs.Reorder.{keys-same, reordered}
 use Rattle.control.proofs.Tables.{in-all}
-use Rattle.control.specs.Statements.{rejectedAmong, runsThatReject, figuresAt, ListedOn}
+use Rattle.control.specs.Statements.{runsThatReject, figuresAt, ListedOn}
 
 -- ---- an offer of a trial
 
@@ -68,21 +74,25 @@ module _ (t u : Trial) (g : ℕ) (idle : ℕ → Bool) (keeps : Keeps t u) (list
 abbrev startOf : Trial → State
 startOf t = tableStart (rowTotal t) (t .shape .offers) (t .shape .k) (t .level .a) (t .level .b) 0
 
--- the full run of a trial, by its rows
+-- the full runs of a trial, by its rows
 trialRun-is : (t : Trial) → trialRun t ≡ fullRun (trialRows t) (startOf t)
 unfolding trialRun tableRun
 trialRun-is t = ap (λ (X : List (List Float)). fullRun X (startOf t)) (tableOf-rows t)
+
+balancedRun-is : (t : Trial) → trialBalancedRun t ≡ fullRun (balancedRows (trialRows t)) (startOf t)
+unfolding trialBalancedRun
+balancedRun-is t =
+    balancedRun-rows (tableOf t) (rowTotal t) (t .shape .offers) (t .shape .k) (t .level .a) (t .level .b) 0 (tableOf-length t)
+    ∙ ap (λ (X : List (List Float)). fullRun (balancedRows X) (startOf t)) (tableOf-rows t)
 
 pub same-total : (t u : Trial) → Keeps t u → rowTotal u ≡ rowTotal t
 unfolding rowTotal
 same-total t u keeps = ap (λ (s : Setting). rowCount (s .shape .design)) keeps
 
--- and by the figures of a trial that it agrees with
-trialRun-keeps : (t u : Trial) → Keeps t u → trialRun u ≡ fullRun (trialRows u) (startOf t)
+-- its first state is that of a trial that it agrees with
+same-start : (t u : Trial) → Keeps t u → startOf u ≡ startOf t
 unfolding rowTotal
-trialRun-keeps t u keeps =
-    trialRun-is u
-    ∙ ap (λ (s : Setting). fullRun (trialRows u) (tableStart (rowCount (s .shape .design)) (s .shape .offers) (s .shape .k) (s .level .a) (s .level .b) 0)) keeps
+same-start t u keeps = ap (λ (s : Setting). tableStart (rowCount (s .shape .design)) (s .shape .offers) (s .shape .k) (s .level .a) (s .level .b) 0) keeps
 
 module _ (t : Trial) (idle : ℕ → Bool) (runs : ℕ → Trial) (ok : trialRefusal t ≡ 0)
     (oks : (g : ℕ) → g < rowTotal t → trialRefusal (runs g) ≡ 0)
@@ -91,6 +101,12 @@ module _ (t : Trial) (idle : ℕ → Bool) (runs : ℕ → Trial) (ok : trialRef
   abbrev d : Design
   d = t .shape .design
 
+  abbrev e : ℕ
+  e = allowance (rowTotal t) (t .level .a) (t .level .b)
+
+  acc : Accepted t
+  acc = accepted t ok
+
   tall : length (trialRows t) ≡ rowTotal t
   tall = trialRows-length t
 
@@ -98,9 +114,9 @@ module _ (t : Trial) (idle : ℕ → Bool) (runs : ℕ → Trial) (ok : trialRef
   unfolding rowTotal
   moved-total h g l m = moved-lt d h g l m
 
-  member : (g : ℕ) → g < length (trialRows t) → Member (t .shape .offers) (trialRows t) idle (fullMask (t .shape .offers)) (trialRows (runs g)) 0 g
-  member g l = record {
-    sound = subst (λ (n : ℕ). Sound n (trialRows u)) (ap (λ (s : Setting). s .shape .offers) (keeps g m)) (trialRows-sound u ua);
+  trial-member : (g : ℕ) → g < rowTotal t → Member (t .shape .offers) (trialRows t) idle (fullMask (t .shape .offers)) (trialRows (runs g)) 0 g
+  trial-member g m = record {
+    sound = subst (λ (n : ℕ). Sound n (trialRows u)) (ap (λ (s : Setting). s .shape .offers) (keeps g m)) (trialRows-sound u (accepted u (oks g m)));
     tall = own ∙ sym tall;
     lives = in-all (t .shape .offers) idle;
     seen = omega (arith, own, rowTotal-some t);
@@ -109,14 +125,8 @@ module _ (t : Trial) (idle : ℕ → Bool) (runs : ℕ → Trial) (ok : trialRef
     row = at-row 0 (rowTotal-some t) ∙ ap (λ (h : ℕ). keysAt (tabulate (t .shape .offers) idle) (getD (trialRows t) h [])) (moved-first d g);
   }
     where
-      m : g < rowTotal t
-      m = omega (arith, tall)
-
       u : Trial
       u = runs g
-
-      ua : Accepted u
-      ua = accepted (runs g) (oks g m)
 
       own : length (trialRows u) ≡ rowTotal t
       own = trialRows-length u ∙ same-total t u (keeps g m)
@@ -127,24 +137,29 @@ module _ (t : Trial) (idle : ℕ → Bool) (runs : ℕ → Trial) (ok : trialRef
           ∙ idle-row t u g idle (keeps g m) (listing g m) h
           ∙ ap (keysAt (tabulate (t .shape .offers) idle)) (sym (trialRows-row t (moved d h g) (moved-total h g r m)))
 
-  abbrev e : ℕ
-  e = allowance (rowTotal t) (t .level .a) (t .level .b)
+  trial-family : Family (t .shape .offers) (t .shape .k) e (rowTotal t) (trialRows t) idle (λ _. fullMask (t .shape .offers)) (λ g. trialRows (runs g)) (λ _. 0)
+  trial-family = record {
+    sound = trialRows-sound t acc;
+    tall = tall;
+    tolerance = acc .k-some;
+    rare = allowance-lt (rowTotal t) (t .level .a) (t .level .b) (rowTotal-some t) (acc .levelled .proper);
+    member = trial-member;
+  }
 
-  by-rows : runsThatReject (t .shape .k) (rowTotal t) idle (λ g. fullRun (trialRows (runs g)) (startOf t) .verdicts) ≤ e
-  by-rows =
-      subst (λ (M : ℕ). runsThatReject (t .shape .k) M idle (λ g. fullRun (trialRows (runs g)) (startOf t) .verdicts) ≤ e) tall
-      (general (t .shape .offers) (t .shape .k) e (rowTotal t) (trialRows t) idle (λ _. fullMask (t .shape .offers)) (λ g. trialRows (runs g)) (λ _. 0)
-      (trialRows-sound t acc) (acc .k-some) (omega (arith, tall, allowance-lt (rowTotal t) (t .level .a) (t .level .b) (rowTotal-some t) (acc .levelled .proper))) member)
-    where
-      acc : Accepted t
-      acc = accepted t ok
+  few : rowTotal t ≤ 2 ^ 53
+  unfolding rowTotal
+  few = omega (arith, acc .laid .rows-most)
+
+  -- runs of trials, by their rows
+  by-rows : (B : List (List Float) → List (List Float)) (out : Trial → Outcome) → ((u : Trial) → out u ≡ fullRun (B (trialRows u)) (startOf u))
+      → Family (t .shape .offers) (t .shape .k) e (rowTotal t) (B (trialRows t)) idle (λ _. fullMask (t .shape .offers)) (λ g. B (trialRows (runs g))) (λ _. 0)
+      → runsThatReject (t .shape .k) (rowTotal t) idle (λ g. out (runs g) .verdicts) ≤ e
+  by-rows B out is family =
+      counted (t .shape .k) (rowTotal t) e idle _ _ (λ g l. ap (λ (r : Outcome). r .verdicts) (is (runs g) ∙ ap (fullRun (B (trialRows (runs g)))) (same-start t (runs g) (keeps g l))))
+      (general family)
 
   pub trials : runsThatReject (t .shape .k) (rowTotal t) idle (λ g. trialRun (runs g) .verdicts) ≤ e
-  unfolding runsThatReject
-  trials = omega (
-    arith,
-    by-rows,
-    countBelow-le (rowTotal t) (λ g. leb (t .shape .k) (rejectedAmong idle (trialRun (runs g) .verdicts)))
-        (λ g. leb (t .shape .k) (rejectedAmong idle (fullRun (trialRows (runs g)) (startOf t) .verdicts)))
-        (λ g l q. subst (λ (o : Outcome). T (leb (t .shape .k) (rejectedAmong idle (o .verdicts)))) (trialRun-keeps t (runs g) (keeps g l)) q),
-  )
+  trials = by-rows (λ X. X) trialRun trialRun-is trial-family
+
+  pub balanced-trials : runsThatReject (t .shape .k) (rowTotal t) idle (λ g. trialBalancedRun (runs g) .verdicts) ≤ e
+  balanced-trials = by-rows balancedRows trialBalancedRun balancedRun-is (balanced-family few trial-family)

@@ -1,16 +1,20 @@
 -- Examples of document 01, by the calls for C: the trial W as a file, of which 0042 is rejected in step 1 and 7 is kept, and the table P, of which step 1 rejects two.
 -- Their adjusted figures are 1 and 3 of 8 rows, and 0, 1 and 2.
+-- Over balanced tables W has the same verdicts; of samples/saffron.trial, milk 4011 and saffron 0907, the plain run rejects none and the balanced one saffron.
+use Prim.Native.Nat.{ℕ}
 use mathlib.Core.Path.{_≡_, refl}
-use mathlib.Core.List.{[], _∷_}
-use lib.Ieee.{lt, le}
+use mathlib.Core.List.{List, [], _∷_}
+use lib.Ieee.{ofInt, lt, le}
 use Rattle.refusals.specs.Limits.{badSizes}
 use Rattle.runs.specs.FullRuns.{acceptedRun}
 use Rattle.runs.specs.Examples.{P}
 use Rattle.words.specs.Words.{bytesOf, signed}
 use Rattle.trialfile.specs.Examples.{wordsW}
 use Rattle.trialrun.specs.TrialRuns.{trialRun}
+use Rattle.trialbalance.specs.TrialBalance.{trialBalancedRun}
 use Rattle.host.specs.Calls.{trialVerdictsAnswer, trialVerdictsBuffer, tableVerdictsAnswer, tableVerdictsBuffer}
 use Rattle.host.specs.AdjustedCalls.{trialAdjustedAnswer, trialAdjustedBuffer, trialAdjustedRows, tableAdjustedAnswer, tableAdjustedBuffer}
+use Rattle.host.specs.BalancedCalls.{trialBalancedVerdictsAnswer, trialBalancedVerdictsBuffer}
 
 -- one offer is rejected
 pub w-answer : trialVerdictsAnswer (bytesOf wordsW) 2 ≡ 1
@@ -48,3 +52,17 @@ w-adjusted-short = (refl, refl, refl)
 pub p-adjusted : (tableAdjustedAnswer P 4 3 2 0 4 4 ≡ 0) × (tableAdjustedBuffer P 4 3 2 0 4 (7 ∷ 7 ∷ 7 ∷ 7 ∷ []) ≡ 0 ∷ 1 ∷ 2 ∷ 7 ∷ [])
 unfolding tableAdjustedAnswer tableAdjustedBuffer badSizes lt le
 p-adjusted = (refl, refl)
+
+-- ---- balanced tables
+
+-- 0x10004004, 0x20010203, 0x34000FAB, 0x3400038B, 0x400001F4, 0x4FFFFED4, 0x400000C8, 0x40000003, 0x40000002, 0x40000001, 0xF000000A
+abbrev wordsSaffron : List ℕ
+wordsSaffron = 268451844 ∷ 536936963 ∷ 872419243 ∷ 872416139 ∷ 1073742324 ∷ 1342176980 ∷ 1073742024 ∷ 1073741827 ∷ 1073741826 ∷ 1073741825 ∷ 4026531850 ∷ []
+
+pub saffron-balanced : (trialVerdictsAnswer (bytesOf wordsSaffron) 2 ≡ 0) × (trialBalancedVerdictsAnswer (bytesOf wordsSaffron) 2 ≡ 1) × (trialBalancedVerdictsBuffer (bytesOf wordsSaffron) (7 ∷ 7 ∷ 7 ∷ []) ≡ 0 ∷ 1 ∷ 7 ∷ [])
+unfolding trialVerdictsAnswer trialBalancedVerdictsAnswer trialBalancedVerdictsBuffer bytesOf signed acceptedRun trialRun trialBalancedRun ofInt lt le
+saffron-balanced = (refl, refl, refl)
+
+pub w-balanced : (trialBalancedVerdictsAnswer (bytesOf wordsW) 2 ≡ 1) × (trialBalancedVerdictsBuffer (bytesOf wordsW) (7 ∷ 7 ∷ 7 ∷ []) ≡ 1 ∷ 0 ∷ 7 ∷ [])
+unfolding trialBalancedVerdictsAnswer trialBalancedVerdictsBuffer bytesOf wordsW signed acceptedRun trialBalancedRun ofInt lt le
+w-balanced = (refl, refl)

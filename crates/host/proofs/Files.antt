@@ -1,85 +1,90 @@
--- Laws of the call for the verdicts of a file.
---   file-fits                a file's refusal has two digits at most
---   file-known               an accepted file has at most 32 offers, and its steps are small
---   file-refused, file-short, file-done     each answer with its buffer: the file is turned away, 12, the steps are written
+-- Laws of the calls for the verdicts of a file.
+--   told-refused, told-short, told-done     each answer of `tell` with its buffer: the run is refused, 12, the steps are written
+--   file-tellable, file-told     a file's run, over the trial's table or any in its place: what `tell` requires, and what the call gives
 use Prim.Native.Nat.{ℕ, _+_, _≤_, _<_}
 use native.Mathlib.Omega.{arith}
-use mathlib.Core.Path.{_≡_, refl, sym, ap, ap₂, _∙_, subst}
+use mathlib.Core.Path.{_≡_, refl, sym, ap, _∙_, subst}
 use mathlib.Core.List.{List}
 use lib.ListN.{length}
 use lib.Dec.{T}
-use Rattle.refusals.specs.Answers.{firstRefusal}
+use lib.Ieee.{Float}
+use Rattle.refusals.specs.Answers.{answer, firstRefusal, afterwards}
 use Rattle.refusals.specs.Buffers.{written}
 use Rattle.refusals.proofs.Answers.{answer-map, first-short}
 use Rattle.runs.specs.FullRuns.{acceptedRun}
+use Rattle.runs.specs.Tables.{tableRun}
 use Rattle.verdicts.specs.Verdicts.{rejectedCount}
 use Rattle.verdicts.specs.Internal.{smallSteps}
-use Rattle.trial.specs.Exchange.{rowTotal, tableOf}
+use Rattle.trial.specs.Exchange.{rowTotal}
 use Rattle.trial.specs.declared.Trial.{Trial}
 use Rattle.trial.proofs.Accepted.{accepted}
 use Rattle.words.specs.Words.{wordsOf}
 use Rattle.trialfile.specs.Files.{trialOf, fileChecks, fileRefusal}
 use Rattle.trialfile.proofs.Taken.{read-accepted}
-use Rattle.trialrun.specs.TrialRuns.{trialRun}
-use Rattle.trialrun.specs.FileRuns.{acceptedFile, refusedFile, fileRun}
+use Rattle.trialrun.specs.FileRuns.{refusedFile}
 use Rattle.trialrun.specs.declared.FileRun.{FileRun}
-use Rattle.runs.specs.declared.Decision.{Decision}
-use Rattle.host.specs.Calls.{stepBytes, fileOffers, trialVerdictsAnswer, trialVerdictsBuffer}
+use Rattle.host.specs.Calls.{stepBytes, fileOffers, trialVerdictsChecks}
+use Rattle.host.specs.Internal.{Tellable, Told}
 use Rattle.host.proofs.StepBytes.{table-steps}
 use Rattle.host.proofs.Lent.{given-refused, given-short, given-done}
 use Rattle.refusals.proofs.Answers as answers
 
-module _ (bytes : List ℕ) (f : FileRun) (e : f ≡ fileRun bytes) where
+-- ---- the answers; nothing but the buffer is lent
+
+module _ (f : FileRun) (buf : List ℕ) where
+  abbrev number : ℕ
+  number = f .run .refusal
+
+  abbrev count : ℕ → ℕ
+  count n = rejectedCount n (f .run .decisions)
+
+  abbrev steps : ℕ → List ℕ
+  steps n = stepBytes n (f .run .decisions)
+
+  pub told-refused : (number ≡ 0 → ⊥) → Told f buf (100 + number) buf
+  told-refused z cs n e o = let d = given-refused {A = Unit {0}} cs n (count n) (steps n) buf tt tt number e z in (d .0, d .1)
+
+  module _ (z : number ≡ 0) where
+    pub told-short : length buf < f .trial .shape .offers → Told f buf 112 buf
+    told-short h cs n e o = let d = given-short {A = Unit {0}} cs n (count n) (steps n) buf tt tt number e z (omega (arith, o z)) in (d .0, d .1)
+
+    pub told-done : f .trial .shape .offers ≤ length buf → (r : ℕ) → r ≡ count (f .trial .shape .offers) → (out : List ℕ) → out ≡ written (steps (f .trial .shape .offers)) buf → Told f buf r out
+    told-done h r p out q cs n e o =
+        let d = given-done {A = Unit {0}} cs n (count n) (steps n) buf tt tt number e z (omega (arith, o z)) r (p ∙ ap count (o z)) out (q ∙ ap (λ (i : ℕ). written (steps i) buf) (o z)) tt refl in
+        (d .0, d .1)
+
+-- ---- a file, whose trial is run over any table
+
+module _ (table : Trial → List Float) (bytes : List ℕ) where
   abbrev read : Trial
   read = trialOf (wordsOf bytes)
 
-  number-is : f .run .refusal ≡ firstRefusal (fileChecks bytes)
-  unfolding fileRun firstRefusal acceptedRun
-  number-is = ap (λ (x : FileRun). x .run .refusal) e ∙ answer-map (λ (x : FileRun). x .run .refusal) (fileChecks bytes) (acceptedFile read) refusedFile
+  abbrev done : FileRun
+  done = record { trial = read; run = acceptedRun (tableRun (table read) (rowTotal read) (read .shape .offers) (read .shape .k) (read .level .a) (read .level .b) 0) }
 
-  pub file-fits : f .run .refusal ≤ 99
-  file-fits = omega (arith, number-is, first-short (fileChecks bytes))
+  abbrev ran : FileRun
+  ran = answer (fileChecks bytes) done refusedFile
 
-  -- an accepted file's answer is its trial with the trial's run
-  taken : f .run .refusal ≡ 0 → f ≡ acceptedFile read
-  unfolding fileRun
-  taken z = e ∙ sym (answers.accepted (acceptedFile read) refusedFile (fileChecks bytes) (f .run .refusal) number-is z)
+  number-is : ran .run .refusal ≡ firstRefusal (fileChecks bytes)
+  unfolding firstRefusal acceptedRun
+  number-is = answer-map (λ (x : FileRun). x .run .refusal) (fileChecks bytes) done refusedFile
 
-  offers-are : f .run .refusal ≡ 0 → f .trial .shape .offers ≡ fileOffers bytes
+  taken : ran .run .refusal ≡ 0 → ran ≡ done
+  taken z = sym (answers.accepted done refusedFile (fileChecks bytes) (ran .run .refusal) number-is z)
+
+  offers-are : ran .run .refusal ≡ 0 → ran .trial .shape .offers ≡ fileOffers bytes
   offers-are z = ap (λ (x : FileRun). x .trial .shape .offers) (taken z)
 
-  pub file-known : f .run .refusal ≡ 0 → (f .trial .shape .offers ≤ 32) × T (smallSteps (f .run .decisions))
-  unfolding fileRefusal trialRun
-  file-known z = (
-    omega (arith, offers-are z, accepted read (read-accepted bytes (sym number-is ∙ z)) .offers-most),
-    subst (λ (x : FileRun). T (smallSteps (x .run .decisions))) (sym (taken z)) (table-steps (tableOf read) (rowTotal read) (read .shape .offers) (read .shape .k) (read .level .a) (read .level .b) 0),
-  )
+  module _ (f : FileRun) (e : f ≡ ran) where
+    pub file-tellable : Tellable f
+    unfolding fileRefusal
+    file-tellable = subst Tellable (sym e) (record {
+      short = omega (arith, number-is, first-short (fileChecks bytes));
+      few = λ z. omega (arith, offers-are z, accepted read (read-accepted bytes (sym number-is ∙ z)) .offers-most);
+      small = λ z. subst (λ (x : FileRun). T (smallSteps (x .run .decisions))) (sym (taken z)) (table-steps (table read) (rowTotal read) (read .shape .offers) (read .shape .k) (read .level .a) (read .level .b) 0);
+    })
 
-  -- ---- the answers; nothing but the buffer is lent
-
-  module _ (buf : List ℕ) where
-    abbrev Done : ℕ → List ℕ → Type 0
-    Done r out = (r ≡ trialVerdictsAnswer bytes (length buf)) × (out ≡ trialVerdictsBuffer bytes buf)
-
-    abbrev result : ℕ
-    result = rejectedCount (fileOffers bytes) (fileRun bytes .run .decisions)
-
-    abbrev steps : List ℕ
-    steps = stepBytes (fileOffers bytes) (fileRun bytes .run .decisions)
-
-    pub file-refused : (f .run .refusal ≡ 0 → ⊥) → Done (100 + f .run .refusal) buf
-    unfolding trialVerdictsAnswer trialVerdictsBuffer
-    file-refused z = let d = given-refused {A = Unit {0}} (fileChecks bytes) (fileOffers bytes) result steps buf tt tt (f .run .refusal) number-is z in (d .0, d .1)
-
-    module _ (z : f .run .refusal ≡ 0) where
-      pub file-short : length buf < f .trial .shape .offers → Done 112 buf
-      unfolding trialVerdictsAnswer trialVerdictsBuffer
-      file-short h = let d = given-short {A = Unit {0}} (fileChecks bytes) (fileOffers bytes) result steps buf tt tt (f .run .refusal) number-is z (omega (arith, offers-are z)) in (d .0, d .1)
-
-      pub file-done : f .trial .shape .offers ≤ length buf → (out : List ℕ) → out ≡ written (stepBytes (f .trial .shape .offers) (f .run .decisions)) buf → (n : ℕ) → n ≡ rejectedCount (f .trial .shape .offers) (f .run .decisions) → Done n out
-      unfolding trialVerdictsAnswer trialVerdictsBuffer
-      file-done h out p n q =
-          let g = ap (λ (x : FileRun). x .run .decisions) e in
-          let d = given-done {A = Unit {0}} (fileChecks bytes) (fileOffers bytes) result steps buf tt tt (f .run .refusal) number-is z (omega (arith, offers-are z))
-          n (q ∙ ap₂ rejectedCount (offers-are z) g) out (p ∙ ap₂ (λ (i : ℕ) (l : List Decision). written (stepBytes i l) buf) (offers-are z) g) tt refl in
-          (d .0, d .1)
+    pub file-told : (buf : List ℕ) (r : ℕ) (out : List ℕ) → Told f buf r out
+        → (r ≡ answer (trialVerdictsChecks bytes (length buf)) (rejectedCount (fileOffers bytes) (ran .run .decisions)) (λ n. 100 + n))
+        × (out ≡ afterwards (trialVerdictsChecks bytes (length buf)) (written (stepBytes (fileOffers bytes) (ran .run .decisions)) buf) buf)
+    file-told buf r out told = subst (λ (x : FileRun). Told x buf r out) e told (fileChecks bytes) (fileOffers bytes) number-is offers-are

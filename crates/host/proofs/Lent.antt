@@ -1,5 +1,4 @@
 -- Laws of every call: conditions, and then a lent buffer that is too short.
---   roomy, short             the buffer is long enough, and the conditions before it decide; it is too short, and they let the call by
 --   Given                    a result, a buffer and something else that is lent are what a call gives
 --   given-by                 they are, where the call is refused by n
 --   given-refused, given-short, given-done     they are, where the conditions before the buffer refuse, where 12 does, and where the call is accepted
@@ -7,22 +6,14 @@
 use Prim.Native.Nat.{ℕ, zero, suc, _+_, _≤_, _<_}
 use native.Mathlib.Omega.{arith}
 use native.Mathlib.Decide.{decLe}
-use mathlib.Core.Path.{_≡_, refl, sym, ap, _∙_}
+use mathlib.Core.Path.{_≡_, refl, sym, _∙_}
 use mathlib.Core.List.{List, _++_}
 use lib.ListN.{length}
 use borrow.Author.Tests.{ltb-false}
 use Rattle.refusals.specs.Answers.{Checks, answer, firstRefusal, afterwards}
 use Rattle.refusals.specs.Buffers.{tooShort, written}
-use Rattle.refusals.proofs.Answers.{accepted, refused, answer-append, first-decides, first-passes, none-holds, both-pass}
-use Rattle.refusals.proofs.Buffers.{lent-short, lent-enough}
-
-module _ (cs : Checks) (places needed : ℕ) where
-  pub roomy : {A : Type 0} (done : A) (refusing : ℕ → A) → needed ≤ places → answer cs done refusing ≡ answer (cs ++ tooShort places needed) done refusing
-  roomy done refusing h = ap (λ x. answer cs x refusing) (lent-enough done refusing places needed h) ∙ sym (answer-append cs (tooShort places needed) done refusing)
-
-  pub short : 0 ≡ firstRefusal cs → places < needed → 12 ≡ firstRefusal (cs ++ tooShort places needed)
-  unfolding firstRefusal
-  short e h = lent-short 0 (λ n. n) places needed h ∙ sym (first-passes cs (tooShort places needed) 0 e refl)
+use Rattle.refusals.proofs.Answers.{accepted, refused, first-decides, none-holds, both-pass}
+use Rattle.refusals.proofs.Buffers.{roomy, short}
 
 -- ---- the answers: the result v, and xs in the buffer; what else is lent holds `new`
 

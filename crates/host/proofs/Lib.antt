@@ -7,4 +7,5 @@ pub mod Files
 pub mod FigureAnswers
 pub mod AdjustedTables
 pub mod AdjustedFiles
+pub mod BalancedTables
 pub mod Examples

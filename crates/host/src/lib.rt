@@ -1,14 +1,17 @@
 // The calls for hosts written in C. include/becardlarder.h documents them for a C programmer; a slice is a pointer and a length there.
 // The definitions are in specs/, their laws in proofs/.
 mod adjusted; // the calls that tell adjusted figures
+mod balanced; // the calls over balanced tables
 
 use runs::Decision;
+use trialrun::FileRun;
 ghost use mathlib.Core.Path.{_≡_};
 ghost use Prim.Native.Nat.{_≤_};
 ghost use lib.Dec.{T};
 ghost use lib.ListN.{length};
 ghost use Rattle.refusals.specs.Buffers.{written};
 ghost use Rattle.host.specs.Calls.{stepBytes, trialVerdictsAnswer, trialVerdictsBuffer, tableVerdictsAnswer, tableVerdictsWork, tableVerdictsBuffer};
+ghost use Rattle.host.specs.Internal.{Tellable, Told};
 ghost use Rattle.verdicts.specs.Internal.{smallSteps};
 
 // The rejecting steps of the first n verdicts into the first bytes of a buffer.
@@ -26,14 +29,11 @@ fn put_steps(decisions: [Decision; 32], n: usize, out: &mut [u8])
     }
 }
 
-// Runs the trial of a file. The result is the number of rejected offers, or 100 plus the refusal number.
-// The buffer's first bytes then hold, per offer, the rejecting step or 0; where the call is refused it is unchanged.
-#[no_mangle]
-pub extern "C" fn becardlarder_trial_verdicts(file: &[u8], verdicts: &mut [u8]) -> u32
-    ensures { λ r. ⌜ r ≡ trialVerdictsAnswer (now (file .entry)) (length (now (verdicts .entry))) ⌝ }
-    ensures { λ r. ⌜ now (verdicts .exit) ≡ trialVerdictsBuffer (now (file .entry)) (now (verdicts .entry)) ⌝ }
+// The verdicts of a file's run, whichever run it is: what the calls on a file answer.
+fn tell(answer: FileRun, verdicts: &mut [u8]) -> u32
+    requires { ⌜ Tellable answer ⌝ }
+    ensures { λ r. ⌜ Told answer (now (verdicts .entry)) r (now (verdicts .exit)) ⌝ }
 {
-    let answer = trialrun::file_run(file);
     let run = answer.run;
     let refusal = run.refusal;
     if refusal != 0 {
@@ -47,6 +47,17 @@ pub extern "C" fn becardlarder_trial_verdicts(file: &[u8], verdicts: &mut [u8]) 
     let decisions = run.decisions;
     put_steps(decisions, offers, verdicts);
     verdicts::rejected_count(decisions, offers) as u32
+}
+
+// Runs the trial of a file. The result is the number of rejected offers, or 100 plus the refusal number.
+// The buffer's first bytes then hold, per offer, the rejecting step or 0; where the call is refused it is unchanged.
+#[no_mangle]
+pub extern "C" fn becardlarder_trial_verdicts(file: &[u8], verdicts: &mut [u8]) -> u32
+    ensures { λ r. ⌜ r ≡ trialVerdictsAnswer (now (file .entry)) (length (now (verdicts .entry))) ⌝ }
+    ensures { λ r. ⌜ now (verdicts .exit) ≡ trialVerdictsBuffer (now (file .entry)) (now (verdicts .entry)) ⌝ }
+{
+    let answer = trialrun::file_run(file);
+    tell(answer, verdicts)
 }
 
 // Runs a table. The result is the number of rejected columns, or 100 plus the refusal number.

@@ -20,7 +20,7 @@ use Rattle.order.specs.Counting.{count, all}
 use Rattle.order.proofs.Booleans.{true-T, and-left, and-right, not-below}
 use Rattle.order.proofs.Keys.{key, atMost-key, zero-finite, withPlusZero-key}
 use Rattle.order.proofs.Counts.{count-some, all-getD, all-true, all-le, all-both, all-map, count-le, count-map}
-use Rattle.order.proofs.Rows.{Finite, soundRow, Sound, sound-length, sound-finite, sound-all}
+use Rattle.order.proofs.Rows.{Finite, soundRow, Sound, sound-length, sound-finite, sound-at, sound-all}
 use Rattle.select.specs.Rank.{kthLargest, mthSmallest}
 use Rattle.select.proofs.Ranks.{above, kthLargest-law, kthLargest-holds, kthLargest-ranks, kthLargest-keeps, mthSmallest-above, mthSmallest-holds, mthSmallest-keeps, largest-reaches}
 use Rattle.columns.specs.Columns.{Columns, size, _∪_, _∖_, within, choose}
@@ -155,4 +155,4 @@ atLeast-own n X g j s h l = count-some (λ row. atMost v (getD row j nan)) X g [
     row = all-getD (soundRow n) X g [] h s
 
     f : T (finite v)
-    f = all-getD finite (getD X g []) j nan (omega (arith, sound-length n (getD X g []) row)) (sound-finite n (getD X g []) row)
+    f = sound-at n (getD X g []) j row l

@@ -1,13 +1,13 @@
 -- Laws of counting.
 use Prim.Native.Nat.{ℕ, zero, suc, _+_, _≤_, _<_}
 use native.Mathlib.Omega.{arith}
-use mathlib.Core.Path.{_≡_, refl, ap}
+use mathlib.Core.Path.{_≡_, refl, ap, ap₂}
 use mathlib.Core.Bool.{Bool, true, false, not, _&&_}
 use mathlib.Core.List.{List, [], _∷_, _++_, map}
 use lib.ListN.{length, getD}
 use lib.Dec.{T}
 use Rattle.order.specs.Counting.{bit, count, countBelow, all}
-use Rattle.order.proofs.Booleans.{and-left, and-right, and-both}
+use Rattle.order.proofs.Booleans.{and-left, and-right, and-both, not-below}
 
 -- ---- bits
 
@@ -96,6 +96,13 @@ module _ {A : Type 0} where
   pub count-same-all : (p q : A → Bool) (l : List A) → ((x : A) → p x ≡ q x) → count p l ≡ count q l
   count-same-all p q l h = count-same (λ _. true) p q l (λ x _. h x) (all-true l)
 
+  -- and one member more, where it passes q but not p
+  pub count-less : (p q : A → Bool) (l : List A) (i : ℕ) (d : A) → ((x : A) → T (p x) → T (q x)) → i < length l → T (q (getD l i d)) → (T (p (getD l i d)) → ⊥) → count p l < count q l
+  unfolding count
+  count-less p q [] i d f h t n = absurd (omega arith)
+  count-less p q (x ∷ l) zero d f h t n = omega (arith, bit-yes (q x) t, not-below 0 (bit (p x)) (λ g. n (bit-T (p x) g)), count-le-all p q l f)
+  count-less p q (x ∷ l) (suc i) d f h t n = omega (arith, bit-le (p x) (q x) (f x), count-less p q l i d f (omega arith) t n)
+
   -- what passes and what does not make the whole
   pub count-not : (p : A → Bool) (l : List A) → count p l + count (λ x. not (p x)) l ≡ length l
   unfolding count
@@ -127,6 +134,11 @@ pub countBelow-le : (n : ℕ) (p q : ℕ → Bool) → ((i : ℕ) → i < n → 
 unfolding countBelow
 countBelow-le zero p q h = omega arith
 countBelow-le (suc n) p q h = omega (arith, bit-le (p n) (q n) (h n (omega arith)), countBelow-le n p q (λ i l. h i (omega arith)))
+
+pub countBelow-same : (n : ℕ) (p q : ℕ → Bool) → ((i : ℕ) → i < n → p i ≡ q i) → countBelow n p ≡ countBelow n q
+unfolding countBelow
+countBelow-same zero p q h = refl
+countBelow-same (suc n) p q h = ap₂ (λ (a b : ℕ). a + b) (countBelow-same n p q (λ i l. h i (omega arith))) (ap bit (h n (omega arith)))
 
 pub countBelow-none : (n : ℕ) → countBelow n (λ _. false) ≡ 0
 unfolding countBelow

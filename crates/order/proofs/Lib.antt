@@ -11,3 +11,6 @@ pub mod SharedBits
 pub mod Rows
 pub mod Signed
 pub mod Powers
+pub mod Injections
+pub mod Whole
+pub mod Filling

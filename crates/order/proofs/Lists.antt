@@ -2,7 +2,8 @@
 --   getD-map            a member of a mapped list
 --   tabulate-..         the members of a tabulated list; all-tabulate: what holds of each holds of all
 --   all-take, all-drop  what holds of all members holds of some
---   part-rows, rowsOf-..     the rows of a list; rowsOf-joined: rows that are joined and taken apart again
+--   part-rows, rowsOf-..     the rows of a list: how many, how long, which, what their members pass
+--   joined-..           rows that are joined: how many members, and what they pass; rowsOf-joined: taken apart again
 --   set-padded          an array that is filled from the front
 use Prim.Native.Nat.{ℕ, zero, suc, _+_, _-_, _*_, _≤_, _<_}
 use native.Mathlib.Omega.{arith}
@@ -11,12 +12,13 @@ use native.Mathlib.Nat.{suc-mul, zero-mul, mul-le-mul-right}
 use mathlib.Core.Path.{_≡_, refl, sym, ap, ap₂, _∙_}
 use mathlib.Core.Bool.{Bool}
 use mathlib.Core.List.{List, [], _∷_, _++_, map, append-assoc}
-use lib.ListN.{length, getD, take, drop, set, replicate, length-append, length-replicate}
-use lib.Seq.{drop-drop, set-at, take-at, drop-at, getD-take, getD-drop}
-use lib.Dec.{T, eqb, eqb→eq}
+use lib.ListN.{length, getD, take, drop, set, replicate, length-append, length-drop, length-replicate}
+use lib.Seq.{length-take-le, drop-drop, set-at, take-at, drop-at, getD-take, getD-drop}
+use lib.Dec.{T, eqb, eqb-refl, eqb→eq}
 use Rattle.order.specs.Counting.{all}
 use Rattle.order.specs.Lists.{tabulate, rowsOf, joined, padded}
 use Rattle.order.proofs.Booleans.{and-left, and-right, and-both}
+use Rattle.order.proofs.Counts.{all-append}
 
 -- row g of a table lies within it
 pub part-rows : (rows columns g : ℕ) → g < rows → g * columns + columns ≤ rows * columns
@@ -100,6 +102,31 @@ module _ {A : Type 0} where
   -- an entry of a row, in the list
   pub row-entry : (xs : List A) (rows columns g j : ℕ) (d : A) → g < rows → j < columns → getD (getD (rowsOf rows columns xs) g []) j d ≡ getD xs (g * columns + j) d
   row-entry xs rows columns g j d l m = ap (λ (r : List A). getD r j d) (rowsOf-row rows columns xs g l) ∙ getD-take columns (drop (g * columns) xs) j d m ∙ getD-drop (g * columns) xs j d
+
+  pub rowsOf-even : (m n : ℕ) (xs : List A) → length xs ≡ m * n → T (all (λ r. eqb (length r) n) (rowsOf m n xs))
+  unfolding rowsOf all
+  rowsOf-even zero n xs h = tt
+  rowsOf-even (suc m) n xs h =
+      and-both (eqb (length (take n xs)) n) (all (λ r. eqb (length r) n) (rowsOf m n (drop n xs)))
+      (rw (length-take-le n xs (omega (arith, suc-mul m n))) (eqb-refl n))
+      (rowsOf-even m n (drop n xs) (simp length-drop (omega (arith, suc-mul m n))))
+
+  pub rowsOf-all : (p : A → Bool) (m n : ℕ) (xs : List A) → T (all p xs) → T (all (all p) (rowsOf m n xs))
+  unfolding rowsOf all
+  rowsOf-all p zero n xs t = tt
+  rowsOf-all p (suc m) n xs t = and-both (all p (take n xs)) (all (all p) (rowsOf m n (drop n xs))) (all-take p n xs t) (rowsOf-all p m n (drop n xs) (all-drop p n xs t))
+
+  pub joined-all : (p : A → Bool) (rs : List (List A)) → T (all (all p) rs) → T (all p (joined rs))
+  unfolding joined all
+  joined-all p [] t = tt
+  joined-all p (r ∷ rs) t = all-append p r (joined rs) (and-left (all p r) (all (all p) rs) t) (joined-all p rs (and-right (all p r) (all (all p) rs) t))
+
+  pub joined-length : (n : ℕ) (rs : List (List A)) → T (all (λ r. eqb (length r) n) rs) → length (joined rs) ≡ length rs * n
+  unfolding joined all
+  joined-length n [] h = omega (arith, zero-mul n)
+  joined-length n (r ∷ rs) h =
+      let l : length r ≡ n = eqb→eq (length r) n (and-left (eqb (length r) n) (all (λ r. eqb (length r) n) rs) h) in
+      length-append r (joined rs) ∙ omega (arith, l, joined-length n rs (and-right (eqb (length r) n) (all (λ r. eqb (length r) n) rs) h), suc-mul (length rs) n)
 
   pub rowsOf-joined : (n : ℕ) (rs : List (List A)) → T (all (λ r. eqb (length r) n) rs) → rowsOf (length rs) n (joined rs) ≡ rs
   unfolding rowsOf joined all

@@ -1,5 +1,6 @@
 -- A lent buffer: the condition on its places, and what it holds while its first places are written.
 --   lent-short, lent-enough     it has too few places, and it has enough
+--   roomy, short       after other conditions: it has enough, and those decide; it has too few, and they let the call by; lent-passes: it has enough, and nothing holds
 --   filled f X g w     the first g places hold f of the first g members of X
 --   filled-start, filled-turn, filled-end     before the first, one more, and after the last
 use Prim.Native.Nat.{ℕ, suc, _+_, _≤_, _<_}
@@ -12,8 +13,9 @@ use lib.ListN.{length, getD, take, drop, set, length-map}
 use lib.Seq.{take-suc, drop-cons, set-at, take-all, length-take-le}
 use borrow.Author.Tests.{lt-ltb, le-ltb}
 use Rattle.order.proofs.Lists.{map-more}
-use Rattle.refusals.specs.Answers.{answer}
+use Rattle.refusals.specs.Answers.{Checks, answer, firstRefusal}
 use Rattle.refusals.specs.Buffers.{tooShort, written}
+use Rattle.refusals.proofs.Answers.{answer-append, first-passes}
 
 module _ {A : Type 0} (done : A) (refusing : ℕ → A) (places needed : ℕ) where
   pub lent-short : places < needed → refusing 12 ≡ answer (tooShort places needed) done refusing
@@ -23,6 +25,22 @@ module _ {A : Type 0} (done : A) (refusing : ℕ → A) (places needed : ℕ) wh
   pub lent-enough : needed ≤ places → done ≡ answer (tooShort places needed) done refusing
   unfolding answer
   lent-enough h = sym (ap (λ (b : Bool). cond b (refusing 12) done) (le-ltb places needed h))
+
+-- ---- after other conditions
+
+module _ (cs : Checks) (places needed : ℕ) where
+  pub roomy : {A : Type 0} (done : A) (refusing : ℕ → A) → needed ≤ places → answer cs done refusing ≡ answer (cs ++ tooShort places needed) done refusing
+  roomy done refusing h = ap (λ x. answer cs x refusing) (lent-enough done refusing places needed h) ∙ sym (answer-append cs (tooShort places needed) done refusing)
+
+  pub short : 0 ≡ firstRefusal cs → places < needed → 12 ≡ firstRefusal (cs ++ tooShort places needed)
+  unfolding firstRefusal
+  short e h = lent-short 0 (λ n. n) places needed h ∙ sym (first-passes cs (tooShort places needed) 0 e refl)
+
+  pub lent-passes : firstRefusal cs ≡ 0 → needed ≤ places → firstRefusal (cs ++ tooShort places needed) ≡ 0
+  unfolding firstRefusal
+  lent-passes ok h = sym (roomy 0 (λ n. n) h) ∙ ok
+
+-- ---- while it is written
 
 -- the buffer once g values are written
 pub filled : {A B : Type 0} → (A → B) → List A → ℕ → List B → List B

@@ -1,5 +1,5 @@
 -- How long a report can be.
---   report-fits        every text is at most that long
+--   report-fits, balanced-report-fits     every text is at most that long
 use Prim.Native.Nat.{ℕ, _*_, _≤_}
 use native.Mathlib.Omega.{arith}
 use mathlib.Core.List.{List, [], _∷_, _++_}
@@ -9,21 +9,23 @@ use Rattle.runs.specs.declared.Record.{Record}
 use Rattle.runs.specs.declared.Verdict.{Verdict}
 use Rattle.runs.specs.declared.Verdict.the-variants.{Rejected, Kept}
 use Rattle.runs.specs.declared.FullRun.{FullRun}
+use Rattle.runs.specs.Stepdown.{Outcome}
 use Rattle.runs.specs.FullRuns.{acceptedRun}
+use Rattle.trial.specs.declared.Trial.{Trial}
 use Rattle.verdicts.specs.Verdicts.{rejectedCount}
 use Rattle.trial.specs.declared.Shape.{Shape}
 use Rattle.words.specs.Words.{wordsOf}
 use Rattle.trialfile.specs.Files.{trialOf, fileChecks, fileRefusal}
 use Rattle.trialfile.proofs.Taken.{read-accepted}
 use Rattle.trialrun.specs.TrialRuns.{trialRun}
-use Rattle.trialrun.specs.FileRuns.{acceptedFile}
+use Rattle.trialbalance.specs.TrialBalance.{trialBalancedRun}
 use Rattle.trialrun.specs.declared.FileRun.{FileRun}
 use Rattle.text.specs.Ascii.{ascii}
 use Rattle.text.specs.Text.{printed, decimal, decimalInt, cents, line, linesTo}
 use Rattle.text.proofs.Lengths.{printed-most, int-most, line-end, field, number, line-most, numbered-most, lines-most, answer-most}
-use Rattle.rendering.specs.Reports.{headLine, stepLine, verdictWord, verdictStep, offerLine, recordAt, decisionAt, stepLineAt, offerLineAt, trialText, reportOf}
-use Rattle.rendering.specs.Internal.{PrintableFile}
-use Rattle.rendering.proofs.PrintableFiles.{trial-printable}
+use Rattle.rendering.specs.Reports.{headLine, stepLine, verdictWord, verdictStep, offerLine, recordAt, decisionAt, stepLineAt, offerLineAt, trialText, reportBy, reportOf, balancedReportOf}
+use Rattle.rendering.specs.Internal.{PrintableFile, acceptedBy}
+use Rattle.rendering.proofs.PrintableFiles.{PrintableRun, plain-printable, balanced-printable, trial-printable}
 
 -- ---- lines
 
@@ -54,8 +56,16 @@ trial-fits f p =
     let b : length offers ≤ t .shape .offers * offerLineMost = lines-most (t .shape .offers) offerLineMost (offerLineAt (t .labels) r) (λ i l. offer-most (getD (t .labels .codes) i 0) (getD (t .labels .digits) i 0) (decisionAt r i .verdict) (r .steps) (getD (r .counts) i 0) (p .digits-few i l)) in
     omega (arith, length-append (headLine (t .shape) r) (steps ++ (offers ++ end)), length-append steps (offers ++ end), length-append offers end, a, b, head-most (t .shape) r, numbered-most (ascii "end") (rejectedCount (t .shape .offers) (r .decisions)) 3 (omega arith), p .run-printable .few-steps, p .offers-most)
 
-pub report-fits : (bytes : List ℕ) → length (reportOf bytes) ≤ longestReport
-unfolding reportOf fileRefusal
-report-fits bytes =
+fits-by : (run : Trial → Outcome) → PrintableRun run → (bytes : List ℕ) → length (reportBy run bytes) ≤ longestReport
+unfolding reportBy fileRefusal
+fits-by run p bytes =
     let t = trialOf (wordsOf bytes) in
-    answer-most (fileChecks bytes) (trialText t (acceptedRun (trialRun t))) longestReport (omega arith) (λ z. trial-fits (acceptedFile t) (trial-printable t (read-accepted bytes z)))
+    answer-most (fileChecks bytes) (trialText t (acceptedRun (run t))) longestReport (omega arith) (λ z. trial-fits (acceptedBy run t) (trial-printable run p t (read-accepted bytes z)))
+
+pub report-fits : (bytes : List ℕ) → length (reportOf bytes) ≤ longestReport
+unfolding reportOf
+report-fits = fits-by trialRun plain-printable
+
+pub balanced-report-fits : (bytes : List ℕ) → length (balancedReportOf bytes) ≤ longestReport
+unfolding balancedReportOf
+balanced-report-fits = fits-by trialBalancedRun balanced-printable

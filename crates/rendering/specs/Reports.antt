@@ -7,13 +7,16 @@
 --   recordAt, decisionAt   the record of step i and the verdict of offer i, both from 0
 --   stepLineAt, offerLineAt     their lines
 --   trialText t r          the report of a trial with the full run r
---   reportOf bytes         all that is printed for a file: the report of its trial, or its refusal
+--   reportBy run bytes     all that is printed for a file, by a full run of its trial: the report of that run, or the file's refusal
+--   reportOf bytes         the report: by the full run of the trial's table
+--   balancedReportOf bytes the balanced report (document 02, §3): by the full run of its balanced table, whose critical values are ranks
 use Prim.Native.Nat.{ℕ}
 use Prim.Native.String.{String}
 use mathlib.Core.List.{List, [], _∷_, _++_}
 use lib.ListN.{getD}
 use lib.Ieee.{nan}
 use Rattle.refusals.specs.Answers.{answer}
+use Rattle.runs.specs.Stepdown.{Outcome}
 use Rattle.runs.specs.FullRuns.{acceptedRun}
 use Rattle.runs.specs.declared.Record.{Record}
 use Rattle.runs.specs.declared.Verdict.{Verdict}
@@ -28,6 +31,7 @@ use Rattle.trial.specs.declared.Trial.{Trial}
 use Rattle.words.specs.Words.{wordsOf}
 use Rattle.trialfile.specs.Files.{trialOf, fileChecks}
 use Rattle.trialrun.specs.TrialRuns.{trialRun}
+use Rattle.trialbalance.specs.TrialBalance.{trialBalancedRun}
 use Rattle.text.specs.Ascii.{ascii}
 use Rattle.text.specs.Text.{printed, decimal, decimalInt, cents, line, linesTo, refusedText}
 
@@ -69,8 +73,16 @@ trialText t r =
     ++ (linesTo (t .shape .offers) (offerLineAt (t .labels) r)
     ++ line (ascii "end") (decimal (rejectedCount (t .shape .offers) (r .decisions)) ∷ [])))
 
-unfoldable pub reportOf : List ℕ → List ℕ
-unfolding answer fileChecks trialOf wordsOf trialRun acceptedRun trialText
-reportOf bytes =
+unfoldable pub reportBy : (Trial → Outcome) → List ℕ → List ℕ
+unfolding answer fileChecks trialOf wordsOf acceptedRun trialText
+reportBy run bytes =
     let t = trialOf (wordsOf bytes) in
-    answer (fileChecks bytes) (trialText t (acceptedRun (trialRun t))) refusedText
+    answer (fileChecks bytes) (trialText t (acceptedRun (run t))) refusedText
+
+unfoldable pub reportOf : List ℕ → List ℕ
+unfolding reportBy trialRun
+reportOf bytes = reportBy trialRun bytes
+
+unfoldable pub balancedReportOf : List ℕ → List ℕ
+unfolding reportBy trialBalancedRun
+balancedReportOf bytes = reportBy trialBalancedRun bytes

@@ -1,4 +1,4 @@
-// The report of a trial file, as text (document 01, "Report and C call"). The definitions are in specs/, their laws in proofs/.
+// The report of a trial file, as text (document 01, "Report and C call"), and the balanced one (document 02, §3). The definitions are in specs/, their laws in proofs/.
 mod lines; // the lines of a report
 
 use limits::LONGEST_REPORT;
@@ -9,6 +9,8 @@ ghost use Prim.Native.Nat.{_≤_};
 ghost use lib.ListN.{length};
 ghost use Rattle.limits.specs.Limits.{longestReport};
 ghost use Rattle.text.specs.Writes.{Wrote};
+ghost use Rattle.text.specs.Renderings.{textAnswer, afterText};
+ghost use Rattle.rendering.specs.Reports.{balancedReportOf};
 ghost use Rattle.rendering.specs.Renderings.{renderingOf, afterRendering};
 ghost use Rattle.rendering.specs.Internal.{textOf, PrintableFile};
 
@@ -33,13 +35,28 @@ fn compose(out: &mut [u8], f: FileRun) -> usize
     text::numbered(out, at2, b"end", n)
 }
 
+// That text into a lent buffer's first places. Where the buffer is too short it is unchanged.
+fn give(f: FileRun, out: &mut [u8]) -> Rendering
+    requires { ⌜ (f .run .refusal ≡ 0 → PrintableFile f) ⌝ }
+    ensures { λ r. ⌜ (r ≡ textAnswer (textOf f) (length (now (out .entry)))) × (now (out .exit) ≡ afterText (textOf f) (now (out .entry))) ⌝ }
+{
+    let mut space = [0u8; LONGEST_REPORT];
+    let n = compose(&mut space, f);
+    text::give(&space[..n], out)
+}
+
 // The report of a file, or its refusal, as text into the buffer's first places. Where the buffer is too short it is unchanged.
 pub fn report(file: &[u8], out: &mut [u8]) -> Rendering
     ensures { λ r. ⌜ r ≡ renderingOf (now (file .entry)) (length (now (out .entry))) ⌝ }
     ensures { λ r. ⌜ now (out .exit) ≡ afterRendering (now (file .entry)) (now (out .entry)) ⌝ }
 {
-    let f = trialrun::file_run(file);
-    let mut space = [0u8; LONGEST_REPORT];
-    let n = compose(&mut space, f);
-    text::give(&space[..n], out)
+    give(trialrun::file_run(file), out)
+}
+
+// The same of the balanced table of the file's trial.
+pub fn balanced_report(file: &[u8], out: &mut [u8]) -> Rendering
+    ensures { λ r. ⌜ r ≡ textAnswer (balancedReportOf (now (file .entry))) (length (now (out .entry))) ⌝ }
+    ensures { λ r. ⌜ now (out .exit) ≡ afterText (balancedReportOf (now (file .entry))) (now (out .entry)) ⌝ }
+{
+    give(trialbalance::file_balanced_run(file), out)
 }

@@ -2,6 +2,7 @@
 // Public calls, which refuse bad input. No table is copied; the work buffer is lent.
 mod refusal; // what is turned away
 
+pub use refusal::table_run_refusal;
 use runs::FullRun;
 use runs::Record;
 use runs::State;
@@ -143,7 +144,7 @@ pub fn full_run(
     ensures { λ r. ⌜ r ≡ fullAnswer (now (table .entry)) rows columns k a b observed (length (now (work .entry))) ⌝ }
     ensures { λ r. ⌜ now (work .exit) ≡ fullWork (now (table .entry)) rows columns k a b observed (now (work .entry)) ⌝ }
 {
-    let n = refusal::of_table(table, rows, columns, k, a, b, observed, work.len());
+    let n = refusal::table_run_refusal(table, rows, columns, k, a, b, observed, work.len());
     if n != 0 {
         return runs::refused(n);
     }

@@ -38,7 +38,7 @@ pub(crate) fn of_beginning(
 }
 
 // A full run of a table: 4, 3, 9, 10, 11, 12.
-pub(crate) fn of_table(
+pub fn table_run_refusal(
     table: &[f64],
     rows: usize,
     columns: usize,

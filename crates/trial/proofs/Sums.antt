@@ -1,4 +1,4 @@
--- Laws of signed sums: how large they are, that they are finite as f64, and what a second exchange does.
+-- Laws of signed sums: how large they are, and what a second exchange does.
 use Prim.Native.Nat.{ℕ, zero, suc, _+_, _-_, _*_, _/_, _%_, _^_, _≤_, _<_}
 use native.Mathlib.Omega.{arith}
 use native.Mathlib.Nat.{mod-lt}
@@ -9,12 +9,7 @@ use lib.ListN.{length, getD}
 use lib.Dec.{T, ltb, eqb}
 use lib.Bits.{bitXor, xor-shr, xor-mod}
 use lib.IntN.{ℤ, pos, negsuc, natAbs, negℤ, subℕ, _+ℤ_, negℤ-negℤ}
-use lib.Ieee.{Float, nan, inf, fin, binary64, ofInt, fits}
-use lib.Ieee.Exact.{HasValue}
-use lib.Ieee.Back.{round-whole}
-use lib.Ieee.Fits.{ofInt-fits}
 use borrow.Author.Tests.{ltb-true}
-use Rattle.order.specs.Order.{finite}
 use Rattle.order.specs.Counting.{all}
 use Rattle.order.proofs.Booleans.{digit-cases}
 use Rattle.order.proofs.Counts.{all-getD}
@@ -68,19 +63,6 @@ signedSum-small g (d ∷ ds) h =
       h 0 (omega arith),
       signedSum-small (g / 2) ds (λ i l. h (suc i) (omega arith)),
     )
-
--- ---- as an f64
-
-value-finite : (x : Float) (s : Bool) (n : ℕ) → T (fits binary64 x) → HasValue x s n 1 → T (finite x)
-unfolding finite
-value-finite nan s n t h = absurd h
-value-finite (inf r) s n t h = absurd h
-value-finite (fin r m e) s n t h = t
-
-pub whole-finite : (z : ℤ) → natAbs z ≤ 2 ^ 53 → T (finite (ofInt binary64 z))
-unfolding ofInt
-whole-finite (pos n) h = value-finite (ofInt binary64 (pos n)) false n (ofInt-fits binary64 (pos n)) (round-whole binary64 false n h)
-whole-finite (negsuc n) h = value-finite (ofInt binary64 (negsuc n)) true (suc n) (ofInt-fits binary64 (negsuc n)) (round-whole binary64 true (suc n) h)
 
 -- ---- exchanging twice
 

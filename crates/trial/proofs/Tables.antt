@@ -4,10 +4,10 @@
 --   rowOf-.., trialRows-..           how long rows are, how many, which; those of an accepted trial are finite
 --   even-rows, tableOf-rows          the lent table has these rows
 --   rowTotal-some                    there is a row
---   joined-length, tableOf-length    how many members joined rows have: a table has M * offers places
+--   tableOf-length                   a table has M * offers places
 use Prim.Native.Nat.{ℕ, zero, suc, _+_, _*_, _^_, _≤_, _<_}
 use native.Mathlib.Omega.{arith}
-use native.Mathlib.Nat.{zero-mul, suc-mul}
+use native.Mathlib.Nat.{suc-mul}
 use native.Mathlib.Decide.{decLe}
 use mathlib.Core.Path.{_≡_, sym, ap, _∙_, subst}
 use mathlib.Core.Bool.{Bool, not, _&&_}
@@ -22,7 +22,7 @@ use Rattle.order.specs.Counting.{all}
 use Rattle.order.specs.Lists.{rowsOf, joined}
 use Rattle.order.proofs.Booleans.{and-both, and-left, and-right}
 use Rattle.order.proofs.Counts.{all-map, all-le}
-use Rattle.order.proofs.Lists.{tabulate-length, tabulate-getD, all-tabulate, all-take, all-drop, rowsOf-length, rowsOf-joined}
+use Rattle.order.proofs.Lists.{tabulate-length, tabulate-getD, all-tabulate, all-take, all-drop, rowsOf-length, rowsOf-joined, joined-length}
 use Rattle.order.proofs.Rows.{Sound, soundRow, sound-row}
 use Rattle.limits.specs.Limits.{pairsMost}
 use Rattle.trial.specs.Designs.{unitsOf, entryOf}
@@ -31,7 +31,8 @@ use Rattle.trial.specs.Exchange.{byOffer, rowTotal, rowOf, trialRows, ta
 use Rattle.trial.specs.Refusals.{badDifference}
 use Rattle.trial.specs.declared.Trial.{Trial}
 use Rattle.trial.specs.declared.Design.{Design}
-use Rattle.trial.proofs.Sums.{InRange, whole-finite}
+use Rattle.order.proofs.Whole.{whole-finite}
+use Rattle.trial.proofs.Sums.{InRange}
 use Rattle.trial.proofs.LaidOut.{rowCount-some, entry-small}
 use Rattle.trial.proofs.Accepted.{Accepted}
 
@@ -124,13 +125,6 @@ tableOf-rows t =
 pub rowTotal-some : (t : Trial) → 0 < rowTotal t
 unfolding rowTotal
 rowTotal-some t = rowCount-some (t .shape .design)
-
-pub joined-length : {A : Type 0} (n : ℕ) (rs : List (List A)) → T (all (λ r. eqb (length r) n) rs) → length (joined rs) ≡ length rs * n
-unfolding joined all
-joined-length n [] h = omega (arith, zero-mul n)
-joined-length n (r ∷ rs) h =
-    let l : length r ≡ n = eqb→eq (length r) n (and-left (eqb (length r) n) (all (λ r. eqb (length r) n) rs) h) in
-    length-append r (joined rs) ∙ omega (arith, l, joined-length n rs (and-right (eqb (length r) n) (all (λ r. eqb (length r) n) rs) h), suc-mul (length rs) n)
 
 pub tableOf-length : (t : Trial) → length (tableOf t) ≡ rowTotal t * t .shape .offers
 unfolding tableOf

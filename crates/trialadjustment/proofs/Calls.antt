@@ -8,10 +8,10 @@ use mathlib.Core.Path.{_≡_, refl, sym, _∙_}
 use mathlib.Core.List.{List}
 use lib.ListN.{length, take}
 use lib.Ieee.{Float}
-use borrow.Author.Tests.{le-ltb}
 use Rattle.refusals.specs.Answers.{Checks, firstRefusal}
-use Rattle.refusals.specs.Buffers.{tooShort, cleared}
-use Rattle.refusals.proofs.Answers.{none-holds, none-first, first-passes, accepted}
+use Rattle.refusals.specs.Buffers.{cleared}
+use Rattle.refusals.proofs.Answers.{none-holds, none-first, accepted}
+use Rattle.refusals.proofs.Buffers.{lent-passes}
 use Rattle.stepdown.specs.Refusals.{tableChecks, tableRefusal}
 use Rattle.adjustment.specs.Answers.{adjustmentChecks, adjustmentCallChecks, adjustmentCallRefusal, acceptedFigures, refusedFigures, figuresAnswer, figuresWork}
 use Rattle.adjustment.specs.declared.Adjusted.{Adjusted}
@@ -38,7 +38,7 @@ module _ (t : Trial) (ok : trialRefusal t ≡ 0) where
 
   pub call-passes : (places : ℕ) → rowTotal t ≤ places → adjustmentCallRefusal (tableOf t) (rowTotal t) (t .shape .offers) (t .shape .k) 0 places ≡ 0
   unfolding adjustmentCallRefusal
-  call-passes places h = first-passes (adjustmentChecks (tableOf t) (rowTotal t) (t .shape .offers) (t .shape .k) 0) (tooShort places (rowTotal t)) 0 (sym table-passes) refl ∙ none-first (tooShort places (rowTotal t)) (le-ltb places (rowTotal t) h, tt)
+  call-passes places h = lent-passes (adjustmentChecks (tableOf t) (rowTotal t) (t .shape .offers) (t .shape .k) 0) places (rowTotal t) table-passes h
 
   pub table-figured : (places : ℕ) → rowTotal t ≤ places → figuresAnswer (tableOf t) (rowTotal t) (t .shape .offers) (t .shape .k) 0 places ≡ acceptedFigures (rowTotal t) (trialFigures t)
   unfolding figuresAnswer adjustmentCallRefusal trialFigures

@@ -65,7 +65,7 @@ module _ (bytes : List ℕ) (r : Reading) (e : r ≡ readingOf bytes) where
         ap₂ pair same (q ∙ ap (λ (t : Trial). answer (runCallChecks t trialTableMost trialRowsMost) (done t) refusing) same ∙ buffers-hold (done (trialOf (wordsOf bytes))) refusing (trialOf (wordsOf bytes)) (read-accepted bytes (sym number ∙ z)))
         ∙ accepted (pair (trialOf (wordsOf bytes)) (done (trialOf (wordsOf bytes)))) (λ n. pair blank (refusing n)) (fileChecks bytes) (r .refusal) number z
 
-abbrev pairOf : Trial → FullRun → FileRun
+abbrev pub pairOf : Trial → FullRun → FileRun
 pairOf t r = record { trial = t; run = r }
 
 module _ (bytes : List ℕ) (r : Reading) (e : r ≡ readingOf bytes) (run : FullRun) where

@@ -2,31 +2,29 @@
 --   table-accepted, table-runs     the table of an accepted trial is an accepted one, whatever the work buffer's places, if they are enough
 --   run-turned, -short, -cramped, -free     what the call gives, by the size that it is told
 --   call-turned, -short, -cramped           the same of an answer of any kind with both buffers
---   table-filled, call-done                 the table in its buffer, and an answer of any kind that is asked of that table
+--   filled, front, table-filled, call-done  the table in its buffer, and an answer of any kind that is asked of that table
 --   trial-run, trial-work                   the full run of that table
 --   run-sizes                      M and e of the full run: the rows of the trial's table, and floor(M × a/b)
 use Prim.Native.Nat.{ℕ, _*_, _≤_, _<_}
 use native.Mathlib.Omega.{arith}
 use mathlib.Core.Path.{_≡_, refl, sym, ap, ap₂, _∙_}
 use mathlib.Core.Bool.{false, not}
-use mathlib.Core.List.{List, [], _∷_, _++_}
+use mathlib.Core.List.{List, _++_}
 use lib.ListN.{length, take, drop}
 use lib.Seq.{take-at}
-use lib.Dec.{T, eqb}
 use lib.Ieee.{Float}
 use borrow.Author.Tests.{le-ltb, lt-leb, eq-eqb}
 use Rattle.order.specs.Order.{finite}
 use Rattle.order.specs.Counting.{all}
-use Rattle.order.specs.Lists.{joined}
-use Rattle.order.proofs.Booleans.{T-true, and-left, and-right, not-no}
-use Rattle.order.proofs.Counts.{all-append}
-use Rattle.order.proofs.Rows.{soundRow}
+use Rattle.order.proofs.Booleans.{T-true, not-no}
+use Rattle.order.proofs.Lists.{joined-all}
+use Rattle.order.proofs.Rows.{sound-all}
 use Rattle.limits.specs.Limits.{toleranceMost, trialRowsMost, trialTableMost}
-use Rattle.refusals.specs.Answers.{Checks, answer}
+use Rattle.refusals.specs.Answers.{Checks, answer, afterwards}
 use Rattle.refusals.specs.Buffers.{tooShort, written, cleared}
 use Rattle.refusals.specs.Limits.{badSizes, allowance}
-use Rattle.refusals.proofs.Answers.{none-first, first-passes, answer-append, accepted}
-use Rattle.refusals.proofs.Buffers.{lent-short, lent-enough}
+use Rattle.refusals.proofs.Answers.{none-first, answer-append, accepted}
+use Rattle.refusals.proofs.Buffers.{lent-short, lent-enough, lent-passes}
 use Rattle.refusals.proofs.Limits.{neither, within}
 use Rattle.runs.specs.Stepdown.{fullRun}
 use Rattle.runs.specs.FullRuns.{acceptedRun, refusedRun}
@@ -45,11 +43,6 @@ use Rattle.trialrun.specs.TrialRuns.{trialRun, runCallChecks, trialAnswe
 
 -- ---- the table of an accepted trial
 
-joined-finite : (n : ℕ) (rs : List (List Float)) → T (all (soundRow n) rs) → T (all finite (joined rs))
-unfolding joined all
-joined-finite n [] h = tt
-joined-finite n (r ∷ rs) h = all-append finite r (joined rs) (and-right (eqb (length r) n) (all finite r) (and-left (soundRow n r) (all (soundRow n) rs) h)) (joined-finite n rs (and-right (soundRow n r) (all (soundRow n) rs) h))
-
 module _ (t : Trial) (a : Accepted t) where
   rows-most : rowTotal t ≤ trialRowsMost
   unfolding rowTotal
@@ -63,7 +56,7 @@ module _ (t : Trial) (a : Accepted t) where
 
   values-good : badValue (tableOf t) ≡ false
   unfolding badValue tableOf
-  values-good = ap not (T-true (all finite (tableOf t)) (joined-finite (t .shape .offers) (trialRows t) (trialRows-sound t a)))
+  values-good = ap not (T-true (all finite (tableOf t)) (joined-all finite (trialRows t) (sound-all (t .shape .offers) (trialRows t) (trialRows-sound t a))))
 
   pub table-accepted : tableRefusal (tableOf t) (rowTotal t) (t .shape .offers) (t .shape .k) (t .level .a) (t .level .b) 0 ≡ 0
   unfolding tableRefusal tableChecks
@@ -73,9 +66,7 @@ module _ (t : Trial) (a : Accepted t) where
 
   pub table-runs : (places : ℕ) → rowTotal t ≤ places → tableRunRefusal (tableOf t) (rowTotal t) (t .shape .offers) (t .shape .k) (t .level .a) (t .level .b) 0 places ≡ 0
   unfolding tableRunRefusal tableRefusal tableChecks all
-  table-runs places h =
-      first-passes (tableChecks (tableOf t) (rowTotal t) (t .shape .offers) (t .shape .k) (t .level .a) (t .level .b) 0) (tooShort places (rowTotal t)) 0 (sym table-accepted) refl
-      ∙ none-first (tooShort places (rowTotal t)) (le-ltb places (rowTotal t) h, tt)
+  table-runs places h = lent-passes (tableChecks (tableOf t) (rowTotal t) (t .shape .offers) (t .shape .k) (t .level .a) (t .level .b) 0) places (rowTotal t) table-accepted h
 
 -- ---- what the call gives
 
@@ -112,14 +103,17 @@ module _ (t : Trial) (s : TableSize) (q : s ≡ sizeOf t) where
 
   -- ---- a refused call
 
-  module _ {A : Type 0} (done : A) (refusing : ℕ → A) (table work : List Float) where
+  -- whatever an accepted one would put into the table buffer
+  module _ {A : Type 0} (done : A) (refusing : ℕ → A) (new table work : List Float) where
     abbrev pub Left : A → Type 0
-    Left f = (f ≡ answer (runCallChecks t (length table) (length work)) done refusing) × ((table ≡ runTable t table (length work)) × (work ≡ runWork t (length table) work))
+    Left f =
+        (f ≡ answer (runCallChecks t (length table) (length work)) done refusing)
+        × ((table ≡ afterwards (runCallChecks t (length table) (length work)) (written new table) table) × (work ≡ runWork t (length table) work))
 
     -- each answer with both buffers, by a law of every answer
     left : (n : ℕ) (f : A) → f ≡ refusing n → ((B : Type 0) (done : B) (refusing : ℕ → B) → refusing n ≡ answer (runCallChecks t (length table) (length work)) done refusing) → Left f
-    unfolding runTable runWork
-    left n f e law = (e ∙ law A done refusing, (law (List Float) (written (tableOf t) table) (λ _. table), law (List Float) (cleared (rowTotal t) work) (λ _. work)))
+    unfolding runWork
+    left n f e law = (e ∙ law A done refusing, (law (List Float) (written new table) (λ _. table), law (List Float) (cleared (rowTotal t) work) (λ _. work)))
 
     pub call-turned : (f : A) → (s .refusal ≡ 0 → ⊥) → f ≡ refusing (s .refusal) → Left f
     call-turned f z e = left (s .refusal) f e (λ B done refusing. run-turned done refusing (length table) (length work) z)
@@ -141,10 +135,10 @@ module _ (t : Trial) (s : TableSize) (q : s ≡ sizeOf t) where
     total-fits = omega (arith, ap₂ (λ (m n : ℕ). m * n) (told .rows-are z) (told .columns-are z), total-most t good)
 
     module _ (table : List Float) (h : s .rows * s .columns ≤ length table) (w : List Float) (e : w ≡ tableBuffer t table) where
-      same-total : s .rows * s .columns ≡ rowTotal t * t .shape .offers
+      pub same-total : s .rows * s .columns ≡ rowTotal t * t .shape .offers
       same-total = ap₂ (λ (m n : ℕ). m * n) (told .rows-are z) (told .columns-are z)
 
-      filled : w ≡ written (tableOf t) table
+      pub filled : w ≡ written (tableOf t) table
       unfolding tableBuffer tableCallChecks
       filled = e ∙ sym (lent-enough (written (tableOf t) table) (λ _. table) (length table) (rowTotal t * t .shape .offers) (omega (arith, same-total)) ∙ passed-on (written (tableOf t) table) (λ _. table) t (tooShort (length table) (rowTotal t * t .shape .offers)) (s .refusal) (told .refusal-is) z)
 
@@ -152,7 +146,7 @@ module _ (t : Trial) (s : TableSize) (q : s ≡ sizeOf t) where
       unfolding runTable
       table-filled work l = filled ∙ run-free (written (tableOf t) table) (λ _. table) (length table) work z h l
 
-      front : take (s .rows * s .columns) w ≡ tableOf t
+      pub front : take (s .rows * s .columns) w ≡ tableOf t
       front = ap (take (s .rows * s .columns)) filled ∙ take-at (tableOf t) (drop (length (tableOf t)) table) (s .rows * s .columns) (tableOf-length t ∙ sym same-total)
 
       moved : {A : Type 0} (f : List Float → ℕ → ℕ → A) → f (take (s .rows * s .columns) w) (s .rows) (s .columns) ≡ f (tableOf t) (rowTotal t) (t .shape .offers)

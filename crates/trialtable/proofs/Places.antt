@@ -23,11 +23,10 @@ use Rattle.order.specs.Counting.{all}
 use Rattle.order.specs.Lists.{tabulate, rowsOf, joined}
 use Rattle.order.proofs.Booleans.{and-left, and-right}
 use Rattle.order.proofs.Signed.{abs-mag, abs-fits, wide-is, kept}
-use Rattle.order.proofs.Lists.{tabulate-length, tabulate-getD, all-tabulate, rowsOf-length, rowsOf-row, getD-map}
+use Rattle.order.proofs.Lists.{tabulate-length, tabulate-getD, all-tabulate, rowsOf-length, rowsOf-row, joined-length, getD-map}
 use Rattle.refusals.specs.Buffers.{written}
 use Rattle.trial.specs.Designs.{signedSum}
 use Rattle.trial.proofs.Sums.{abs-add}
-use Rattle.trial.proofs.Tables.{joined-length}
 use Rattle.trialtable.specs.Internal.{sumsTable, begun}
 
 -- ---- an i64 and an i32

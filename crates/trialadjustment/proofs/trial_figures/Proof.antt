@@ -2,7 +2,8 @@
 use Rattle.trialrun.proofs.Runs.{call-turned, call-short, call-cramped, total-fits, table-filled}
 use Rattle.trialadjustment.proofs.Calls.{figures-done, work-done}
 use Rattle.adjustment.specs.Answers.{acceptedFigures, refusedFigures}
-use Rattle.trial.specs.Exchange.{rowTotal}
+use Rattle.trial.specs.Exchange.{rowTotal, tableOf}
+use Rattle.trialrun.specs.TrialRuns.{runTable}
 use Rattle.trialadjustment.specs.TrialFigures.{trialFigures, trialFiguresAnswer}
 use native.Mathlib.Omega.{arith}
 use mathlib.Core.Path.{sym}
@@ -12,19 +13,19 @@ use Rattle.trialadjustment.proofs.trial_figures.Statement.{statement}
 use Rattle.trialadjustment.proofs.trial_figures.Tie as tie
 
 returns : tie.Need-returns
-unfolding trialFiguresAnswer
-returns c = let s = c .before .before .before in let a = s .before .before .before .args in call-turned (a .t) _ (s .size .ensures) (acceptedFigures (rowTotal (a .t)) (trialFigures (a .t))) refusedFigures (a .table .now) (a .work .now) _ (c .before .if1 .taken) (c .refused .ensures)
+unfolding trialFiguresAnswer runTable
+returns c = let s = c .before .before .before in let a = s .before .before .before .args in call-turned (a .t) _ (s .size .ensures) (acceptedFigures (rowTotal (a .t)) (trialFigures (a .t))) refusedFigures (tableOf (a .t)) (a .table .now) (a .work .now) _ (c .before .if1 .taken) (c .refused .ensures)
 
 mul-total : tie.Need-mul-total
 mul-total c = let s = c .before .before .before in let f = total-fits _ _ (s .size .ensures) (c .before .if1 .left) in record { fits = omega (arith, f) }
 
 returns-2 : tie.Need-returns-2
-unfolding trialFiguresAnswer
-returns-2 c = let s = c .before .before .before .before .before in let a = s .before .before .before .args in call-short (a .t) _ (s .size .ensures) (acceptedFigures (rowTotal (a .t)) (trialFigures (a .t))) refusedFigures (a .table .now) (a .work .now) _ (c .before .before .before .if1 .left) (omega (arith, c .before .if2 .taken)) (c .refused2 .ensures)
+unfolding trialFiguresAnswer runTable
+returns-2 c = let s = c .before .before .before .before .before in let a = s .before .before .before .args in call-short (a .t) _ (s .size .ensures) (acceptedFigures (rowTotal (a .t)) (trialFigures (a .t))) refusedFigures (tableOf (a .t)) (a .table .now) (a .work .now) _ (c .before .before .before .if1 .left) (omega (arith, c .before .if2 .taken)) (c .refused2 .ensures)
 
 returns-3 : tie.Need-returns-3
-unfolding trialFiguresAnswer
-returns-3 c = let s = c .before .before .before .before .before .before .before in let a = s .before .before .before .args in call-cramped (a .t) _ (s .size .ensures) (acceptedFigures (rowTotal (a .t)) (trialFigures (a .t))) refusedFigures (a .table .now) (a .work .now) _ (c .before .before .before .before .before .if1 .left) (c .before .before .before .if2 .left) (c .before .if3 .taken) (c .refused3 .ensures)
+unfolding trialFiguresAnswer runTable
+returns-3 c = let s = c .before .before .before .before .before .before .before in let a = s .before .before .before .args in call-cramped (a .t) _ (s .size .ensures) (acceptedFigures (rowTotal (a .t)) (trialFigures (a .t))) refusedFigures (tableOf (a .t)) (a .table .now) (a .work .now) _ (c .before .before .before .before .before .if1 .left) (c .before .before .before .if2 .left) (c .before .if3 .taken) (c .refused3 .ensures)
 
 slice-aggregate-adjusted-figures : tie.Need-slice-aggregate-adjusted-figures
 slice-aggregate-adjusted-figures c = sym (length-take-le _ _ (omega (arith, c .before .before .before .table .kept .1 .0, c .before .before .before .before .before .before .before .if2 .left)))

@@ -1,7 +1,8 @@
 -- `full_run` meets its contract: its checks, the table, and the full run of the table with row 0 observed.
 use Rattle.trialrun.proofs.Runs.{call-turned, call-short, call-cramped, total-fits, table-filled, trial-run, trial-work}
 use Rattle.runs.specs.FullRuns.{acceptedRun, refusedRun}
-use Rattle.trialrun.specs.TrialRuns.{trialRun, trialAnswer}
+use Rattle.trial.specs.Exchange.{tableOf}
+use Rattle.trialrun.specs.TrialRuns.{trialRun, trialAnswer, runTable}
 use native.Mathlib.Omega.{arith}
 use mathlib.Core.Path.{sym}
 use lib.Seq.{length-take-le}
@@ -10,19 +11,19 @@ use Rattle.trialrun.proofs.full_run.Statement.{statement}
 use Rattle.trialrun.proofs.full_run.Tie as tie
 
 returns : tie.Need-returns
-unfolding trialAnswer
-returns c = let s = c .before .before .before in let a = s .before .before .before .args in call-turned (a .t) _ (s .size .ensures) (acceptedRun (trialRun (a .t))) refusedRun (a .table .now) (a .work .now) _ (c .before .if1 .taken) (c .refused .ensures)
+unfolding trialAnswer runTable
+returns c = let s = c .before .before .before in let a = s .before .before .before .args in call-turned (a .t) _ (s .size .ensures) (acceptedRun (trialRun (a .t))) refusedRun (tableOf (a .t)) (a .table .now) (a .work .now) _ (c .before .if1 .taken) (c .refused .ensures)
 
 mul-total : tie.Need-mul-total
 mul-total c = let s = c .before .before .before in let f = total-fits _ _ (s .size .ensures) (c .before .if1 .left) in record { fits = omega (arith, f) }
 
 returns-2 : tie.Need-returns-2
-unfolding trialAnswer
-returns-2 c = let s = c .before .before .before .before .before in let a = s .before .before .before .args in call-short (a .t) _ (s .size .ensures) (acceptedRun (trialRun (a .t))) refusedRun (a .table .now) (a .work .now) _ (c .before .before .before .if1 .left) (c .before .if2 .taken) (c .refused2 .ensures)
+unfolding trialAnswer runTable
+returns-2 c = let s = c .before .before .before .before .before in let a = s .before .before .before .args in call-short (a .t) _ (s .size .ensures) (acceptedRun (trialRun (a .t))) refusedRun (tableOf (a .t)) (a .table .now) (a .work .now) _ (c .before .before .before .if1 .left) (c .before .if2 .taken) (c .refused2 .ensures)
 
 returns-3 : tie.Need-returns-3
-unfolding trialAnswer
-returns-3 c = let s = c .before .before .before .before .before .before .before in let a = s .before .before .before .args in call-cramped (a .t) _ (s .size .ensures) (acceptedRun (trialRun (a .t))) refusedRun (a .table .now) (a .work .now) _ (c .before .before .before .before .before .if1 .left) (c .before .before .before .if2 .left) (omega (arith, c .before .if3 .taken)) (c .refused3 .ensures)
+unfolding trialAnswer runTable
+returns-3 c = let s = c .before .before .before .before .before .before .before in let a = s .before .before .before .args in call-cramped (a .t) _ (s .size .ensures) (acceptedRun (trialRun (a .t))) refusedRun (tableOf (a .t)) (a .table .now) (a .work .now) _ (c .before .before .before .before .before .if1 .left) (c .before .before .before .if2 .left) (omega (arith, c .before .if3 .taken)) (c .refused3 .ensures)
 
 slice-aggregate-full-run : tie.Need-slice-aggregate-full-run
 slice-aggregate-full-run c = sym (length-take-le _ _ (omega (arith, c .before .before .before .table .kept .1 .0, c .before .before .before .before .before .before .before .if2 .left)))

@@ -1,4 +1,4 @@
--- `of_table` meets its contract.
+-- `table_run_refusal` meets its contract.
 use Rattle.order.proofs.Booleans.{holds, passes, not-yes, not-no}
 use Rattle.stepdown.specs.Refusals.{tableRunRefusal}
 use Rattle.stepdown.proofs.Calls.{size-fits}
@@ -7,8 +7,8 @@ use borrow.Author.Tests.{lt-ltb, le-ltb, le-leb, lt-leb, eq-eqb, ne-eqb}
 use mathlib.Core.Bool.{not}
 use mathlib.Core.Path.{refl, sym, ap, _∙_}
 use borrow.Author.Needs.{needs}
-use Rattle.stepdown.proofs.refusal.of_table.Statement.{statement}
-use Rattle.stepdown.proofs.refusal.of_table.Tie as tie
+use Rattle.stepdown.proofs.refusal.table_run_refusal.Statement.{statement}
+use Rattle.stepdown.proofs.refusal.table_run_refusal.Tie as tie
 
 returns : tie.Need-returns
 unfolding tableRunRefusal
@@ -41,8 +41,8 @@ returns-7 : tie.Need-returns-7
 unfolding tableRunRefusal
 returns-7 c = passes _ _ _ _ (sym (c .before .before .before .before .before .before .before .before .bad-shape .ensures) ∙ c .before .before .before .before .before .before .before .if1 .left) (passes _ _ _ _ (sym (c .before .before .before .before .before .before .bad-level .ensures) ∙ c .before .before .before .before .before .if2 .left) (passes _ _ _ _ (not-no _ (eq-eqb _ _ (c .before .before .before .before .if3 .left))) (passes _ _ _ _ (lt-leb _ _ (c .before .before .before .if4 .left)) (passes _ _ _ _ (ap not (sym (c .before .before .all-finite .ensures)) ∙ c .before .if5 .left) (passes _ _ _ _ (le-ltb _ _ (c .if6 .left)) (refl))))))
 
-pub of-table-spec : {M : Type 1} → statement M
-of-table-spec =
+pub table-run-refusal-spec : {M : Type 1} → statement M
+table-run-refusal-spec =
     tie.close
     (tie.spec
     (λ c κs. search needs)

@@ -1,0 +1,3 @@
+pub mod Examples
+pub mod Balanced
+pub mod Ranks

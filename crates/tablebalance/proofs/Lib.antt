@@ -1,0 +1,4 @@
+pub mod Calls
+pub mod Examples
+pub mod Accepted
+pub mod Counted

@@ -1,0 +1,2 @@
+pub mod TrialBalance
+pub mod FileBalance

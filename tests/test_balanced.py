@@ -1,0 +1,49 @@
+"""The program `balanced`, as a process: a trial file in, its balanced report or one refusal out."""
+
+import unittest
+
+import programs
+from reference.balanced import report
+
+
+def setUpModule():
+    programs.prove("balanced")
+
+
+class Balanced:
+    name, text = "balanced", staticmethod(report)
+
+
+class Samples(Balanced, programs.Samples, unittest.TestCase):
+    def test_w(self):
+        self.assertEqual(self.printed(programs.W), "trial 3 2 1 2 8\nstep 1 7\nstep 2 7\n"
+                                                   "0042 rejected 1 1\n7 kept 2 3\nend 1\n")
+
+    def test_milk_and_saffron(self):
+        data = (programs.ROOT / "samples" / "saffron.trial").read_bytes()
+        self.assertEqual(self.printed(data), "trial 3 2 1 2 8\nstep 1 7\nstep 2 6\n"
+                                             "4011 kept 2 3\n0907 rejected 1 1\nend 1\n")
+
+
+class Inputs(Balanced, programs.Inputs, unittest.TestCase):
+    share = 7  # more than of the report, whose text is compared elsewhere too
+
+
+class FailedReads(Balanced, programs.FailedReads, unittest.TestCase):
+    pass
+
+
+class FailedWrites(Balanced, programs.FailedWrites, unittest.TestCase):
+    pass
+
+
+class Waiting(Balanced, programs.Waiting, unittest.TestCase):
+    pass
+
+
+class Interrupted(Balanced, programs.Interrupted, unittest.TestCase):
+    pass
+
+
+if __name__ == "__main__":
+    unittest.main()
