@@ -133,7 +133,7 @@ uint32_t becardlarder_table_adjusted(const double *table, size_t table_len, size
  *
  * Values compare as for becardlarder_table_verdicts.
  *
- * Stack: less than 96 KB.
+ * Stack: less than 60 KB.
  */
 uint32_t becardlarder_table_balanced(const double *table, size_t table_len, size_t rows, size_t columns, double *out,
                                      size_t out_len);
@@ -146,7 +146,7 @@ uint32_t becardlarder_table_balanced(const double *table, size_t table_len, size
  *
  * Refusals: those of becardlarder_trial_verdicts, in the same order. Where the call is refused the buffer is unchanged.
  *
- * Stack: less than 140 KB.
+ * Stack: less than 128 KB.
  */
 uint32_t becardlarder_trial_balanced_verdicts(const uint8_t *file, size_t file_len, uint8_t *verdicts,
                                               size_t verdicts_len);

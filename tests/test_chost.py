@@ -31,7 +31,7 @@ FIGURE_MARK = int.from_bytes([MARK] * 4, "little")  # in a place for a figure, o
 # Bytes of stack: what include/becardlarder.h promises.
 FILE_STACK, TABLE_STACK = 120 * 1024, 56 * 1024
 FILE_ADJUSTED_STACK, TABLE_ADJUSTED_STACK = 112 * 1024, 32 * 1024
-FILE_BALANCED_STACK, TABLE_BALANCED_STACK = 140 * 1024, 96 * 1024
+FILE_BALANCED_STACK, TABLE_BALANCED_STACK = 128 * 1024, 60 * 1024
 
 _folder = tempfile.TemporaryDirectory()
 

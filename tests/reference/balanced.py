@@ -65,19 +65,18 @@ def full_run(values, rows, columns, k, a, b, observed, out=None, work=None):
     return lent_table.full_run(balanced, rows, columns, k, a, b, observed, work)
 
 
-def trial_run(trial: Trial, buffer=None, out=None, work=None):
+def trial_run(trial: Trial, buffer=None, work=None):
     """The full run of the balanced table of a trial, with row 0 observed; or a refusal.
 
-    After an accepted call `buffer` holds the trial's table, and the others are as for a table.
+    After an accepted call `buffer` holds the balanced table, and `work` is as for a table.
     """
     number = trial_refusal(trial)
     if number is not None:
         return Refused(number)
-    rows, entries = rows_of(trial), rows_of(trial) * trial.offers
-    if too_short(buffer, entries) or too_short(out, entries) or too_short(work, rows):
+    rows, columns = rows_of(trial), trial.offers
+    if too_short(buffer, rows * columns) or too_short(work, rows):
         return Refused(12)
-    return full_run(table_of(trial, buffer), rows, trial.offers, trial.k, trial.a, trial.b, 0, out,
-                    work)
+    return full_run(table_of(trial), rows, columns, trial.k, trial.a, trial.b, 0, buffer, work)
 
 
 def report(data: bytes) -> str:

@@ -28,6 +28,8 @@ use Rattle.stepdown.specs.declared.Run.{Run}
 use Rattle.adjustment.specs.Adjusted.{tableFigures}
 use Rattle.adjustment.specs.Answers.{adjustmentChecks, adjustmentCallChecks, adjustmentCallRefusal, acceptedFigures, refusedFigures, figuresAnswer}
 use Rattle.adjustment.specs.declared.Adjusted.{Adjusted}
+use Rattle.balance.specs.Balance.{balancedTable}
+use Rattle.tablebalance.specs.Answers.{badCounts, balanceChecks, balanceRefusal, balanceBuffer, balancedRun, balancedChecks, balancedRefusal, balancedAnswer}
 use Rattle.verdicts.specs.Verdicts.{rejectedCount}
 use Rattle.trial.specs.Exchange.{rowTotal, tableOf}
 use Rattle.trial.specs.Designs.{designChecks}
@@ -46,8 +48,11 @@ use Rattle.trialfile.proofs.Taken.{read-refusal}
 use Rattle.trialrun.specs.TrialRuns.{trialRun, runCallChecks, runCallRefusal, trialAnswer}
 use Rattle.trialrun.specs.FileRuns.{fileRun}
 use Rattle.trialadjustment.specs.TrialFigures.{trialFigures, trialFiguresAnswer}
+use Rattle.trialbalance.specs.TrialBalance.{trialBalancedRun, trialBalancedAnswer}
+use Rattle.trialbalance.specs.FileBalance.{fileBalancedRun}
 use Rattle.host.specs.Calls.{stepBytes, fileOffers, trialVerdictsChecks, trialVerdictsRefusal, trialVerdictsAnswer, trialVerdictsBuffer, tableVerdictsChecks, tableVerdictsRefusal, tableVerdictsAnswer, tableVerdictsBuffer}
 use Rattle.host.specs.AdjustedCalls.{tableAdjustedChecks, tableAdjustedRefusal, tableAdjustedAnswer, tableAdjustedWork, tableAdjustedBuffer, trialAdjustedChecks, trialAdjustedRefusal, trialAdjustedAnswer, trialAdjustedBuffer, trialAdjustedRows}
+use Rattle.host.specs.BalancedCalls.{tableBalancedAnswer, trialBalancedVerdictsAnswer, trialBalancedVerdictsBuffer}
 use Rattle.view.specs.Entries.{entryOf, held}
 use Rattle.stepdown.proofs.Calls as calls
 use Rattle.stepdown.proofs.StepByStep as steps
@@ -66,7 +71,7 @@ pub body-order : (ws : List ℕ) (s : Shape) → let l = layoutOf s in
 unfolding bodyPlaces
 body-order ws s = refl
 
--- a trial given as a record: 4, 3, then offers (at each, 5 before 6), then differences; for its table, its run and the writer the same, then 12
+-- a trial given as a record: 4, 3, then offers (at each, 5 before 6), then differences; for its table, its run, plain or balanced, its figures and the writer the same, then 12
 module _ (t : Trial) where
   pub record-order : let s = t .shape in trialChecks t ≡
       ((badColumns offersMost (s .offers) (s .k), r4) ∷ (designChecks (s .design) ++ ((badLevel (t .level .a) (t .level .b), r3) ∷ [])))
@@ -109,6 +114,28 @@ pub figures-order : (t : List Float) (rows columns k observed places : ℕ) → 
 unfolding adjustmentChecks
 figures-order t rows columns k observed places = refl
 
+-- the balanced table, from C too: 4 for the sizes alone, 9, 11, then 12; a balanced full run of a table: as the plain one, then 12 for the table's buffer
+pub balance-order : (t : List Float) (rows columns places : ℕ) → balanceChecks t rows columns places ≡
+    (badCounts rows columns, r4)
+    ∷ (not (eqb (length t) (rows * columns)), r9)
+    ∷ (badValue t, r11)
+    ∷ (ltb places (rows * columns), r12)
+    ∷ []
+unfolding balanceChecks
+balance-order t rows columns places = refl
+
+pub balanced-order : (t : List Float) (rows columns k a b observed places work : ℕ) → balancedChecks t rows columns k a b observed places work ≡
+    (badShape rows columns k, r4)
+    ∷ (badLevel a b, r3)
+    ∷ (not (eqb (length t) (rows * columns)), r9)
+    ∷ (leb rows observed, r10)
+    ∷ (badValue t, r11)
+    ∷ (ltb work rows, r12)
+    ∷ (ltb places (rows * columns), r12)
+    ∷ []
+unfolding tableChecks
+balanced-order t rows columns k a b observed places work = refl
+
 -- a step: 14, 13, 9, 11, 12
 pub step-order : (t : List Float) (r : Run) (places : ℕ) → stepChecks t r places ≡
     (spoiled r, r14)
@@ -119,7 +146,7 @@ pub step-order : (t : List Float) (r : Run) (places : ℕ) → stepChecks t r pl
     ∷ []
 step-order t r places = refl
 
--- the calls for C: the same as for a file and for a table, and 12 last
+-- the calls for C: the same as for a file and for a table, and 12 last; the balanced run of a file has the conditions of the plain one
 pub c-order : (file : List ℕ) (t : List Float) (rows columns k a b observed work places : ℕ)
     → (trialVerdictsChecks file places ≡ fileChecks file ++ tooShort places (fileOffers file))
     × (tableVerdictsChecks t rows columns k a b observed work places ≡ tableChecks t rows columns k a b observed ++ (tooShort work rows ++ tooShort places columns))
@@ -149,6 +176,10 @@ pub figures-number : (t : List Float) (rows columns k observed places : ℕ) →
 unfolding figuresAnswer adjustmentCallRefusal
 figures-number t rows columns k observed places = answer-map (λ (f : Adjusted). f .refusal) (adjustmentCallChecks t rows columns k observed places) (acceptedFigures rows (tableFigures t rows columns k observed)) refusedFigures
 
+pub balanced-number : (t : List Float) (rows columns k a b observed places work : ℕ) → balancedAnswer t rows columns k a b observed places work .refusal ≡ balancedRefusal t rows columns k a b observed places work
+unfolding balancedAnswer balancedRefusal acceptedRun
+balanced-number t rows columns k a b observed places work = answer-map (λ (f : FullRun). f .refusal) (balancedChecks t rows columns k a b observed places work) (acceptedRun (balancedRun t rows columns k a b observed)) refusedRun
+
 pub trial-number : (t : Trial) (places work : ℕ) → trialAnswer t places work .refusal ≡ runCallRefusal t places work
 unfolding trialAnswer runCallRefusal acceptedRun
 trial-number t places work = answer-map (λ (f : FullRun). f .refusal) (runCallChecks t places work) (acceptedRun (trialRun t)) refusedRun
@@ -156,6 +187,10 @@ trial-number t places work = answer-map (λ (f : FullRun). f .refusal) (runCallC
 pub trial-figures-number : (t : Trial) (places work : ℕ) → trialFiguresAnswer t places work .refusal ≡ runCallRefusal t places work
 unfolding trialFiguresAnswer runCallRefusal
 trial-figures-number t places work = answer-map (λ (f : Adjusted). f .refusal) (runCallChecks t places work) (acceptedFigures (rowTotal t) (trialFigures t)) refusedFigures
+
+pub trial-balanced-number : (t : Trial) (places work : ℕ) → trialBalancedAnswer t places work .refusal ≡ runCallRefusal t places work
+unfolding trialBalancedAnswer runCallRefusal acceptedRun
+trial-balanced-number t places work = answer-map (λ (f : FullRun). f .refusal) (runCallChecks t places work) (acceptedRun (trialBalancedRun t)) refusedRun
 
 pub read-number : (bytes : List ℕ) → readingOf bytes .refusal ≡ fileRefusal bytes
 read-number = read-refusal
@@ -208,6 +243,17 @@ unfolding tableAdjustedAnswer tableAdjustedWork tableAdjustedBuffer tableAdjuste
 c-table-adjusted t rows columns k observed work figures h =
     let cs = tableAdjustedChecks t rows columns k observed (length work) (length figures) in
     (answered cs _ (λ n. 100 + n) .gives h, answered cs _ (λ _. work) .gives h, answered cs _ (λ _. figures) .gives h)
+
+-- the calls over balanced tables: 0 and the balanced table; of a file the number of rejected offers of its balanced run, and the rejecting steps
+pub c-table-balanced : (t : List Float) (rows columns : ℕ) (out : List Float) → balanceRefusal t rows columns (length out) ≡ 0
+    → (tableBalancedAnswer t rows columns (length out) ≡ 0) × (balanceBuffer t rows columns out ≡ written (balancedTable t rows columns) out)
+unfolding tableBalancedAnswer balanceBuffer balanceRefusal
+c-table-balanced t rows columns out h = let cs = balanceChecks t rows columns (length out) in (answered cs _ (λ n. 100 + n) .gives h, answered cs _ (λ _. out) .gives h)
+
+pub c-trial-balanced : (file verdicts : List ℕ) → trialVerdictsRefusal file (length verdicts) ≡ 0 → let ds = fileBalancedRun file .run .decisions in
+    (trialBalancedVerdictsAnswer file (length verdicts) ≡ rejectedCount (fileOffers file) ds) × (trialBalancedVerdictsBuffer file verdicts ≡ written (stepBytes (fileOffers file) ds) verdicts)
+unfolding trialBalancedVerdictsAnswer trialBalancedVerdictsBuffer trialVerdictsRefusal
+c-trial-balanced file verdicts h = let cs = trialVerdictsChecks file (length verdicts) in (answered cs _ (λ n. 100 + n) .gives h, answered cs _ (λ _. verdicts) .gives h)
 
 -- a view of a whole table shows the values that the method looks at
 pub view-entry : (xs : List Float) (rows columns row column : ℕ) → length xs ≡ rows * columns → row < rows → column < columns

@@ -9,10 +9,10 @@ use mathlib.Core.List.{List, map}
 use mathlib.Core.Logic.{_↔_, _⊎_}
 use lib.ListN.{length, getD, take}
 use lib.Dec.{T, ltb}
-use lib.Ieee.{Float, binary64, ofInt, toSigned}
+use lib.Ieee.{Float, nan, binary64, ofInt, toSigned}
 use Rattle.limits.specs.Limits.{inputRoom, longestReport, longestSheet}
-use Rattle.order.specs.Order.{plusZero, finite, smaller, equal}
-use Rattle.order.specs.Counting.{all}
+use Rattle.order.specs.Order.{plusZero, finite, smaller, atMost, equal}
+use Rattle.order.specs.Counting.{count, all}
 use Rattle.order.specs.Lists.{rowsOf}
 use Rattle.order.specs.Places.{place}
 use Rattle.order.proofs.Places as places
@@ -21,8 +21,8 @@ use Rattle.select.specs.Passes.{topBits, Search}
 use Rattle.select.proofs.Passes as passes
 use Rattle.refusals.specs.Answers.{Checks, First, firstRefusal, afterwards}
 use Rattle.refusals.specs.Limits.{allowance}
-use Rattle.refusals.specs.Buffers.{cleared}
-use Rattle.refusals.proofs.Answers.{Answered, answered}
+use Rattle.refusals.specs.Buffers.{written, cleared}
+use Rattle.refusals.proofs.Answers.{Answered, answered, none-holds}
 use Rattle.columns.specs.Columns.{size, everyColumn}
 use Rattle.runs.specs.Stepdown.{rejectedSet, leftOver, newlyRejected}
 use Rattle.runs.specs.FullRuns.{acceptedRun, refusedRun, verdictsIn, isRejected}
@@ -35,6 +35,7 @@ use Rattle.stepdown.specs.Refusals.{tableRefusal, tableRunChecks, tableRunRefus
 use Rattle.stepdown.specs.Answers.{fullAnswer, fullWork}
 use Rattle.stepdown.specs.Stepping.{stepped, steppedRecords, lastRun}
 use Rattle.stepdown.specs.declared.Run.{Run}
+use Rattle.stepdown.proofs.Accepted as checked
 use Rattle.adjustment.specs.Adjusted.{rejectedIn, tableFigures}
 use Rattle.adjustment.specs.Passes.{maximumPass, kMaxPass}
 use Rattle.adjustment.specs.Answers.{adjustmentChecks, adjustmentCallChecks, adjustmentCallRefusal, acceptedFigures, refusedFigures, figuresAnswer, figuresWork}
@@ -42,23 +43,34 @@ use Rattle.adjustment.specs.Examples as adjusted
 use Rattle.adjustment.proofs.Accepted.{accepted}
 use Rattle.adjustment.proofs.Tables as figures
 use Rattle.adjustment.proofs.Examples as figure-examples
+use Rattle.balance.specs.Balance.{rank, whole, balancedTable}
+use Rattle.balance.specs.Examples as ranked
+use Rattle.balance.proofs.Balanced.{balancedTable-entry}
+use Rattle.balance.proofs.Examples as rank-examples
+use Rattle.tablebalance.specs.Answers.{balanceChecks, balanceRefusal, balanceBuffer, balancedRun, balancedChecks, balancedRefusal, balancedAnswer, balancedOut, balancedWork}
+use Rattle.tablebalance.specs.Examples as balanced
+use Rattle.tablebalance.proofs.Accepted.{accepted-balanced}
+use Rattle.tablebalance.proofs.Counted as counted
+use Rattle.tablebalance.proofs.Examples as balance-examples
 use Rattle.trial.specs.Designs.{entryOf}
 use Rattle.trial.specs.Record.{ArrayLengths, trimmed, Same, Keeps}
 use Rattle.trial.specs.Exchange.{byOffer, rowOf, rowTotal, tableOf}
 use Rattle.trial.specs.Refusals.{trialRefusal}
 use Rattle.trial.specs.declared.Trial.{Trial}
+use Rattle.trial.proofs.Accepted as trials-checked
 use Rattle.trial.proofs.Unused.{same-trimmed}
 use Rattle.trial.proofs.Exact.{row-exact}
 use Rattle.words.specs.Words.{Bytes, wordsOf}
 use Rattle.trialfile.specs.Files.{fileChecks, trialOf, fileRefusal, readingOf}
 use Rattle.trialwriter.specs.Writings.{fileLength, writingOf, afterWriting}
-use Rattle.trialrun.specs.TrialRuns.{trialRun, runCallChecks, runCallRefusal, trialAnswer}
+use Rattle.trialrun.specs.TrialRuns.{trialRun, runCallChecks, runCallRefusal, trialAnswer, runWork}
+use Rattle.trialbalance.specs.TrialBalance.{trialBalanced, trialBalancedRun, trialBalancedAnswer, runBalanced}
 use Rattle.trialadjustment.specs.TrialFigures.{rejectedOf, trialFigures, trialFiguresAnswer}
 use Rattle.trialadjustment.proofs.Calls.{table-passes}
 use Rattle.trialadjustment.proofs.Trials as trialfigures
-use Rattle.control.proofs.Answered.{tables-answered, trials-answered}
+use Rattle.control.proofs.Answered.{tables-answered, trials-answered, balanced-tables-answered, balanced-trials-answered}
 use Rattle.text.specs.Text.{cents, refusedText}
-use Rattle.rendering.specs.Reports.{recordAt, trialText, reportOf}
+use Rattle.rendering.specs.Reports.{recordAt, trialText, reportOf, balancedReportOf}
 use Rattle.rendering.specs.Renderings.{renderingOf, afterRendering}
 use Rattle.text.specs.Renderings.{textAnswer, afterText}
 use Rattle.sheet.specs.Sheets.{sheetText, sheetOf}
@@ -267,3 +279,89 @@ module _ (m : ℕ) (xs : List Float) (fs : T (all finite xs)) (pos : 0 < m) (man
   -- and fewer do, where no bit is free any more
   pub settled : {p h : ℕ} → Search m xs p h 0 → h ≡ place (mthSmallest m xs)
   settled = passes.settled m xs fs pos many
+
+-- ==== Balanced verdicts (document 02, §3) ====
+
+-- of an accepted table the buffer holds the balanced table, and each of its entries is the number of rows of its own column whose value is at most that entry
+module _ (t : List Float) (rows columns : ℕ) (out : List Float) (h : balanceRefusal t rows columns (length out) ≡ 0) where
+  pub balanced-table : balanceBuffer t rows columns out ≡ written (balancedTable t rows columns) out
+  unfolding balanceBuffer balanceRefusal
+  balanced-table = answered (balanceChecks t rows columns (length out)) _ (λ _. out) .gives h
+
+  pub balanced-entry : (g j : ℕ) → g < rows → j < columns
+      → getD (balancedTable t rows columns) (g * columns + j) nan ≡ whole (count (λ row. atMost (getD row j nan) (getD t (g * columns + j) nan)) (rowsOf rows columns t))
+  unfolding balanceRefusal balanceChecks rank
+  balanced-entry = balancedTable-entry t rows columns (checked.full-length t (rows * columns) (none-holds (balanceChecks t rows columns (length out)) h .1 .0))
+
+-- the engine then runs on that table: verdicts, counts and records of an accepted call are those of the balanced table, which stands in its buffer; the work buffer is cleared
+module _ (t : List Float) (rows columns k a b observed : ℕ) where
+  pub balanced-run : (places work : ℕ) → balancedRefusal t rows columns k a b observed places work ≡ 0 → balancedAnswer t rows columns k a b observed places work ≡ acceptedRun (tableRun (balancedTable t rows columns) rows columns k a b observed)
+  unfolding balancedAnswer balancedRefusal balancedRun
+  balanced-run places work h = answered (balancedChecks t rows columns k a b observed places work) _ refusedRun .gives h
+
+  pub balanced-buffers : (out work : List Float) → balancedRefusal t rows columns k a b observed (length out) (length work) ≡ 0
+      → (balancedOut t rows columns k a b observed out (length work) ≡ written (balancedTable t rows columns) out) × (balancedWork t rows columns k a b observed (length out) work ≡ cleared rows work)
+  unfolding balancedOut balancedWork balancedRefusal
+  balanced-buffers out work h = let cs = balancedChecks t rows columns k a b observed (length out) (length work) in (answered cs _ (λ _. out) .gives h, answered cs _ (λ _. work) .gives h)
+
+  module _ (ok : tableRefusal t rows columns k a b observed ≡ 0) where
+    -- the balanced table of an accepted table is accepted, by every call over tables
+    pub balanced-accepted : tableRefusal (balancedTable t rows columns) rows columns k a b observed ≡ 0
+    balanced-accepted = accepted-balanced t rows columns k a b observed ok
+
+    -- balancing changes no count
+    pub balanced-counts : tableRun (balancedTable t rows columns) rows columns k a b observed .counts ≡ tableRun t rows columns k a b observed .counts
+    unfolding balancedRun
+    balanced-counts = counted.balanced-counts t rows columns k a b observed (checked.accepted t rows columns k a b observed ok)
+
+-- a trial's balanced run is that of its table, with row 0 observed; the balanced table stands in the table's buffer
+module _ (t : Trial) where
+  pub trial-balanced-run : (places work : ℕ) → runCallRefusal t places work ≡ 0 → trialBalancedAnswer t places work ≡ acceptedRun (balancedRun (tableOf t) (rowTotal t) (t .shape .offers) (t .shape .k) (t .level .a) (t .level .b) 0)
+  unfolding trialBalancedAnswer trialBalancedRun runCallRefusal
+  trial-balanced-run places work h = answered (runCallChecks t places work) _ refusedRun .gives h
+
+  pub trial-balanced-buffers : (table work : List Float) → runCallRefusal t (length table) (length work) ≡ 0
+      → (runBalanced t table (length work) ≡ written (balancedTable (tableOf t) (rowTotal t) (t .shape .offers)) table) × (runWork t (length table) work ≡ cleared (rowTotal t) work)
+  unfolding runBalanced runWork trialBalanced runCallRefusal
+  trial-balanced-buffers table work h = let cs = runCallChecks t (length table) (length work) in (answered cs _ (λ _. table) .gives h, answered cs _ (λ _. work) .gives h)
+
+  pub trial-balanced-counts : trialRefusal t ≡ 0 → trialBalancedRun t .counts ≡ trialRun t .counts
+  unfolding trialBalancedRun trialRun balancedRun
+  trial-balanced-counts ok = balanced-counts (tableOf t) (rowTotal t) (t .shape .offers) (t .shape .k) (t .level .a) (t .level .b) 0 (trialruns.table-accepted t (trials-checked.accepted t ok))
+
+-- what the second report program prints, of an input that it read into such a buffer, is the balanced report of the whole input
+pub balanced-program : (whole buffer text : List ℕ) (n : ℕ) → inputRoom ≤ length buffer → longestReport ≤ length text → Gives whole buffer n
+    → let read = take n buffer in take ((textAnswer (balancedReportOf read) (length text)) .length) (afterText (balancedReportOf read) text) ≡ balancedReportOf whole
+balanced-program whole buffer text n h k g = rendered.balanced-whole (take n buffer) text _ _ k refl refl ∙ programs.whole-input balancedReportOf inputRoom inputs.balanced-cut-off whole buffer n h g
+
+-- of an accepted file that is the report of its trial's balanced run, with ranks as critical values, printed whole; a refused one prints as in the report
+pub balanced-report-accepted : (bytes : List ℕ) → fileRefusal bytes ≡ 0 → let t = trialOf (wordsOf bytes) in balancedReportOf bytes ≡ trialText t (acceptedRun (trialBalancedRun t))
+unfolding balancedReportOf fileRefusal
+balanced-report-accepted bytes h = answered (fileChecks bytes) _ refusedText .gives h
+
+pub balanced-report-refused : (bytes : List ℕ) (n : ℕ) → First (fileChecks bytes) n → balancedReportOf bytes ≡ refusedText n
+unfolding balancedReportOf
+balanced-report-refused bytes n f = answered (fileChecks bytes) _ refusedText .refuses n f
+
+pub printed-ranks : (t : Trial) → trialRefusal t ≡ 0 → (i : ℕ) → i < length (trialBalancedRun t .records) → let c = recordAt (acceptedRun (trialBalancedRun t)) i .critical in ofInt binary64 (cents c) ≡ c
+printed-ranks = printing.printed-ranks
+
+-- the rarity of wrong names holds for it too: demand 3 in both forms, over what the balanced full runs answer
+pub balanced-trials : (t : Trial) (idle : ℕ → Bool) (runs : ℕ → Trial) → trialRefusal t ≡ 0
+    → ((g : ℕ) → g < rowTotal t → trialRefusal (runs g) ≡ 0)
+    → ((g : ℕ) → g < rowTotal t → Keeps t (runs g))
+    → ((g : ℕ) → g < rowTotal t → ListedOn idle g t (runs g))
+    → (places work : ℕ) → rowTotal t * t .shape .offers ≤ places → rowTotal t ≤ work
+    → runsThatReject (t .shape .k) (rowTotal t) idle (λ g. verdictsIn (t .shape .offers) (trialBalancedAnswer (runs g) places work)) ≤ allowance (rowTotal t) (t .level .a) (t .level .b)
+balanced-trials = balanced-trials-answered
+
+pub balanced-tables : (rows columns k a b : ℕ) (t : List Float) (idle : ℕ → Bool) (runs : ℕ → List Float) (o : ℕ) → tableRefusal t rows columns k a b o ≡ 0
+    → ((g : ℕ) → g < rows → tableRefusal (runs g) rows columns k a b g ≡ 0)
+    → ((g : ℕ) → g < rows → SameOn idle rows columns t (runs g))
+    → (places work : ℕ) → rows * columns ≤ places → rows ≤ work
+    → runsThatReject k rows idle (λ g. verdictsIn columns (balancedAnswer (runs g) rows columns k a b g places work)) ≤ allowance rows a b
+balanced-tables = balanced-tables-answered
+
+-- balanced tables with ties and with both zeros; those of W, and of milk and saffron, with their runs
+pub balanced-examples : (map (λ x. balancedTable (x .table) (x .rows) (x .columns)) ranked.examples ≡ map (λ x. x .told) ranked.examples) × (map (λ x. x .asked) balanced.examples ≡ map (λ x. x .told) balanced.examples)
+balanced-examples = (rank-examples.all-examples, balance-examples.all-examples)

@@ -9,7 +9,7 @@ use Rattle.refusals.specs.Limits.{badSizes}
 use Rattle.runs.specs.FullRuns.{acceptedRun}
 use Rattle.runs.specs.Examples.{P}
 use Rattle.words.specs.Words.{bytesOf, signed}
-use Rattle.trialfile.specs.Examples.{wordsW}
+use Rattle.trialfile.specs.Examples.{wordsW, wordsSaffron}
 use Rattle.trialrun.specs.TrialRuns.{trialRun}
 use Rattle.trialbalance.specs.TrialBalance.{trialBalancedRun}
 use Rattle.host.specs.Calls.{trialVerdictsAnswer, trialVerdictsBuffer, tableVerdictsAnswer, tableVerdictsBuffer}
@@ -55,12 +55,8 @@ p-adjusted = (refl, refl)
 
 -- ---- balanced tables
 
--- 0x10004004, 0x20010203, 0x34000FAB, 0x3400038B, 0x400001F4, 0x4FFFFED4, 0x400000C8, 0x40000003, 0x40000002, 0x40000001, 0xF000000A
-abbrev wordsSaffron : List ℕ
-wordsSaffron = 268451844 ∷ 536936963 ∷ 872419243 ∷ 872416139 ∷ 1073742324 ∷ 1342176980 ∷ 1073742024 ∷ 1073741827 ∷ 1073741826 ∷ 1073741825 ∷ 4026531850 ∷ []
-
 pub saffron-balanced : (trialVerdictsAnswer (bytesOf wordsSaffron) 2 ≡ 0) × (trialBalancedVerdictsAnswer (bytesOf wordsSaffron) 2 ≡ 1) × (trialBalancedVerdictsBuffer (bytesOf wordsSaffron) (7 ∷ 7 ∷ 7 ∷ []) ≡ 0 ∷ 1 ∷ 7 ∷ [])
-unfolding trialVerdictsAnswer trialBalancedVerdictsAnswer trialBalancedVerdictsBuffer bytesOf signed acceptedRun trialRun trialBalancedRun ofInt lt le
+unfolding trialVerdictsAnswer trialBalancedVerdictsAnswer trialBalancedVerdictsBuffer bytesOf wordsSaffron signed acceptedRun trialRun trialBalancedRun ofInt lt le
 saffron-balanced = (refl, refl, refl)
 
 pub w-balanced : (trialBalancedVerdictsAnswer (bytesOf wordsW) 2 ≡ 1) × (trialBalancedVerdictsBuffer (bytesOf wordsW) (7 ∷ 7 ∷ 7 ∷ []) ≡ 1 ∷ 0 ∷ 7 ∷ [])

@@ -1,2 +1,3 @@
 pub mod TrialBalance
 pub mod FileBalance
+pub mod Examples

@@ -3,6 +3,7 @@
 --   wordsTwice     two offers of one pair, printed 0042 and 42: the same number twice
 --   wordsSurplus   W's file with a difference too many before the end
 --   wordsAfter     W's file with a word after the end
+--   wordsSaffron   the file of the trial milk and saffron, samples/saffron.trial
 use mathlib.Core.List.{List, [], _∷_, _++_}
 use Prim.Native.Nat.{ℕ}
 use lib.ListN.{take}
@@ -22,3 +23,7 @@ wordsSurplus = take 10 wordsW ++ (1073741825 ∷ 4026531851 ∷ [])
 unfoldable pub wordsAfter : List ℕ
 unfolding wordsW
 wordsAfter = wordsW ++ (4026531850 ∷ [])
+
+-- 0x10004004, 0x20010203, 0x34000FAB, 0x3400038B, 0x400001F4, 0x4FFFFED4, 0x400000C8, 0x40000003, 0x40000002, 0x40000001, 0xF000000A
+unfoldable pub wordsSaffron : List ℕ
+wordsSaffron = 268451844 ∷ 536936963 ∷ 872419243 ∷ 872416139 ∷ 1073742324 ∷ 1342176980 ∷ 1073742024 ∷ 1073741827 ∷ 1073741826 ∷ 1073741825 ∷ 4026531850 ∷ []

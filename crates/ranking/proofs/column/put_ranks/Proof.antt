@@ -47,7 +47,7 @@ whole-requires : tie.Need-whole-requires Inv-loop μ-loop
 whole-requires c κs =
     let l = c .before .before .before .before .loop .inv in
     let o = l .0 .ordered in
-    omega (arith, o .most, walk-rank _ _ _ _ _ o (l .0 .walk) (c .before .before .before .loop-test .taken) (l .1) _ (c .rank-of .ensures))
+    omega (arith, o .most, walk-rank _ _ _ _ _ o (l .0 .walk) (omega (arith, c .before .before .before .loop-test .taken)) (l .1) _ (c .rank-of .ensures))
 
 mul-table : tie.Need-mul-table Inv-loop μ-loop
 mul-table c =
@@ -86,10 +86,10 @@ loop-again : tie.Need-loop-again Inv-loop μ-loop
 loop-again c =
     let l = c .before .before .before .before .before .loop .inv in
     let o = l .0 .ordered in
-    (record { ordered = o; walk = walk-down _ _ _ _ _ o (l .0 .walk) (c .before .before .before .before .loop-test .taken) (l .1) _ (c .before .rank-of .ensures) _ (c .whole .ensures) }, omega (arith, l .1), simp length-set (l .2))
+    (record { ordered = o; walk = walk-down _ _ _ _ _ o (l .0 .walk) (omega (arith, c .before .before .before .before .loop-test .taken)) (l .1) _ (c .before .rank-of .ensures) _ (c .whole .ensures) }, omega (arith, l .1), simp length-set (l .2))
 
 returns : tie.Need-returns Inv-loop μ-loop
-returns c = let l = c .before .loop .inv in walk-end _ _ _ _ _ (l .0 .ordered) (l .0 .walk) (c .loop-test .left)
+returns c = let l = c .before .loop .inv in walk-end _ _ _ _ _ (l .0 .ordered) (l .0 .walk) (omega (arith, c .loop-test .left))
 
 pub put-ranks-spec : {M : Type 1} → statement M
 put-ranks-spec =
