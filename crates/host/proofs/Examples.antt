@@ -1,9 +1,8 @@
 -- Examples of document 01, by the calls for C: the trial W as a file, of which 0042 is rejected in step 1 and 7 is kept, and the table P, of which step 1 rejects two.
 -- Their adjusted figures are 1 and 3 of 8 rows, and 0, 1 and 2.
 -- Over balanced tables W has the same verdicts; of samples/saffron.trial, milk 4011 and saffron 0907, the plain run rejects none and the balanced one saffron.
-use Prim.Native.Nat.{ℕ}
 use mathlib.Core.Path.{_≡_, refl}
-use mathlib.Core.List.{List, [], _∷_}
+use mathlib.Core.List.{[], _∷_}
 use lib.Ieee.{ofInt, lt, le}
 use Rattle.refusals.specs.Limits.{badSizes}
 use Rattle.runs.specs.FullRuns.{acceptedRun}

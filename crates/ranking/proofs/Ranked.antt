@@ -2,17 +2,17 @@
 --   finite-number                 a finite value is a number
 --   inside, inside-small          entry j of row h stands in the table, and its place is small; sized: the table's length
 --   Ranked, ranked-..             a table, ranked in its first j columns; in all of them it is the balanced one
-use Prim.Native.Nat.{ℕ, zero, suc, _+_, _*_, _/_, _%_, _^_, _≤_, _<_}
+use Prim.Native.Nat.{ℕ, zero, suc, _+_, _*_, _/_, _%_, _≤_, _<_}
 use native.Mathlib.Omega.{arith}
-use native.Mathlib.Decide.{decLt, ℕ-discrete}
+use native.Mathlib.Decide.{ℕ-discrete}
 use native.Mathlib.Nat.{mod-lt, div-add-mod', div-lt-iff-lt-mul, mul-le-mul-right, mul-le-mul-left}
-use mathlib.Core.Path.{_≡_, refl, sym, ap, ap₂, subst, _∙_}
-use mathlib.Core.Bool.{Bool, true, false, not, cond, _&&_}
+use mathlib.Core.Path.{_≡_, refl, sym, ap, subst, _∙_}
+use mathlib.Core.Bool.{Bool, true, false, not, cond}
 use mathlib.Core.List.{List, [], _∷_}
-use lib.ListN.{length, getD, set, length-set}
-use lib.Seq.{ext-getD, getD-set-same, getD-set-other}
-use lib.Dec.{T, leb, ltb, eqb, eqb→eq, ltb→lt}
-use lib.Arith.{digits-lt, digits-div, digits-mod}
+use lib.ListN.{length, getD}
+use lib.Seq.{ext-getD}
+use lib.Dec.{T, leb, ltb, eqb}
+use lib.Arith.{digits-lt, digits-mod}
 use lib.IntN.{pos}
 use lib.Ieee.{Float, nan, inf, fin, isNan}
 use borrow.Author.Tests.{lt-ltb, le-ltb, eq-eqb, ne-eqb}

@@ -9,10 +9,9 @@ use Prim.Native.Nat.{ℕ, _*_, _≤_, _<_}
 use native.Mathlib.Omega.{arith}
 use mathlib.Core.Path.{_≡_, refl, sym, ap, ap₂, _∙_}
 use mathlib.Core.Bool.{false, not}
-use mathlib.Core.List.{List, _++_, map, map-id}
+use mathlib.Core.List.{List, _++_, map-id}
 use lib.ListN.{length, take, drop, length-append}
 use lib.Seq.{take-at, drop-at}
-use lib.Dec.{T}
 use lib.Ieee.{Float}
 use borrow.Author.Tests.{ltb-false, le-ltb, eq-eqb}
 use Rattle.limits.specs.Limits.{tableRowsMost, columnsMost}

@@ -11,10 +11,10 @@ use native.Mathlib.Nat.{suc-mul}
 use native.Mathlib.Decide.{decLe}
 use mathlib.Core.Path.{_≡_, sym, ap, _∙_, subst}
 use mathlib.Core.Bool.{Bool, not, _&&_}
-use mathlib.Core.List.{List, [], _∷_, _++_}
+use mathlib.Core.List.{List, [], _++_}
 use lib.ListN.{length, getD, take, drop, length-map, length-append, length-take, drop-of-length-le}
 use lib.Seq.{drop-at, take-take, take-add, take-nil, length-take-le}
-use lib.Dec.{T, eqb, leb, eqb→eq, eqb-refl, leb→le, le→leb}
+use lib.Dec.{T, eqb, leb, eqb-refl, leb→le, le→leb}
 use lib.IntN.{ℤ, natAbs}
 use lib.Ieee.{Float, binary64, ofInt}
 use Rattle.order.specs.Order.{finite}

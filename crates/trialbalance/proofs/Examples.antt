@@ -3,7 +3,6 @@
 --   saffron-table                     the table of milk and saffron
 --   saffron-plain                     its full run
 --   w-balanced, saffron-balanced      the balanced full runs
-use Prim.Native.Nat.{ℕ}
 use mathlib.Core.Path.{_≡_, refl, ap}
 use mathlib.Core.List.{List}
 use lib.Ieee.{Float}

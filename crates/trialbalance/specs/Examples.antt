@@ -1,6 +1,6 @@
 -- The trial milk and saffron as a record: places that its counts don't use hold zero. Definitions only.
 --   trialSaffron     milk, 4011, and saffron, 0907, in 3 pairs, at 1/4 with k 1; its file is samples/saffron.trial
-use mathlib.Core.List.{[], _∷_}
+use mathlib.Core.List.{_∷_}
 use lib.ListN.{replicate}
 use lib.IntN.{pos, negsuc}
 use Rattle.trial.specs.declared.Design.the-variants.{Paired}

@@ -1,9 +1,8 @@
 -- `put_ranks`. The invariant: the rows from place i of the order on have their ranks.
 use Prim.Native.Nat.{_-_, _≤_}
 use native.Mathlib.Omega.{arith}
-use mathlib.Core.Path.{_≡_, refl, ap, _∙_}
+use mathlib.Core.Path.{_≡_, refl}
 use lib.ListN.{length, length-set}
-use Rattle.ranking.specs.Internal.{Ordered}
 use Rattle.ranking.proofs.Ranked.{inside-small}
 use Rattle.ranking.proofs.Walking.{Wander, walk-start, row-lt, row-inside, walk-rank, walk-down, walk-end}
 use borrow.Author.Needs.{needs}

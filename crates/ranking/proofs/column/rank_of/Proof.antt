@@ -1,6 +1,5 @@
 -- `rank_of` meets its contract.
 use borrow.Author.Tests.{eq-eqb, ne-eqb}
-use borrow.Author.Needs.{needs}
 use Rattle.ranking.proofs.column.rank_of.Statement.{statement}
 use Rattle.ranking.proofs.column.rank_of.Tie as tie
 
