@@ -1,6 +1,7 @@
 -- Why the ranks that are handed out from the last row down are the ranks of the column.
 --   ranks                 how many places stand no higher than v, counted along the order
---   Walk, walk-..         the ranks of the rows from place i of the order on are put into column j
+--   Walk, walk-..         the ranks of the rows from place i of the order on are put into column j; Wander: with what that rests on
+--   row-.., entry-..      the next row, and the place of its entry
 use Prim.Native.Nat.{ℕ, zero, suc, _+_, _-_, _*_, _/_, _%_, _≤_, _<_}
 use native.Mathlib.Omega.{arith}
 use native.Mathlib.Decide.{decLt, ℕ-discrete}
@@ -14,6 +15,7 @@ use lib.Dec.{T, leb, ltb, eqb, eqb-refl}
 use lib.Arith.{digits-div, digits-mod}
 use lib.Ieee.{Float, nan}
 use borrow.Author.Tests.{lt-ltb, le-leb, lt-leb, eq-eqb, ne-eqb}
+use Rattle.limits.specs.Limits.{tableRowsMost}
 use Rattle.order.specs.Counting.{bit, count, countBelow}
 use Rattle.order.specs.Lists.{tabulate}
 use Rattle.order.specs.Places.{place}
@@ -22,7 +24,7 @@ use Rattle.order.proofs.Lists.{tabulate-length, tabulate-getD}
 use Rattle.balance.specs.Balance.{whole}
 use Rattle.sorting.specs.Sorting.{keyOf, Sorted}
 use Rattle.ranking.specs.Internal.{placesIn, rankedBy, Put, Ordered}
-use Rattle.ranking.proofs.Ranked.{inside}
+use Rattle.ranking.proofs.Ranked.{inside, inside-small}
 
 -- a test that holds of the first numbers alone
 count-first : (n m : ℕ) (p : ℕ → Bool) → m ≤ n → ((i : ℕ) → i < m → p i ≡ true) → ((i : ℕ) → m ≤ i → i < n → p i ≡ false) → countBelow n p ≡ m
@@ -123,7 +125,7 @@ module _ (columns j : ℕ) (places order : List ℕ) (t : List Float) (o : Order
   }
 
   -- the row at place i is one of the table
-  pub row-lt : (i : ℕ) → i < length order → getD order i 0 < length places
+  row-lt : (i : ℕ) → i < length order → getD order i 0 < length places
   row-lt i h = go (decLt (getD order i 0) (length places))
     where
       go : Dec (getD order i 0 < length places) → getD order i 0 < length places
@@ -141,7 +143,7 @@ module _ (columns j : ℕ) (places order : List ℕ) (t : List Float) (o : Order
               ∙ ap (λ (n : ℕ). countBelow n (λ i. leb (length places) (getD ids i 0))) (tabulate-length (length places) (λ r. r))
               ∙ count-first (length places) 0 (λ i. leb (length places) (getD ids i 0)) (omega arith) (λ i l. absurd (omega arith)) (λ i a l. ap (leb (length places)) (tabulate-getD (length places) (λ r. r) i 0 l) ∙ lt-leb (length places) i l)
 
-  pub row-inside : (i : ℕ) → i < length order → getD order i 0 * columns + j < length t
+  row-inside : (i : ℕ) → i < length order → getD order i 0 * columns + j < length t
   row-inside i h = inside (length t) (length places) columns (getD order i 0) j (o .full) (row-lt i h) (o .within)
 
   after-more : (i h : ℕ) → i < length order → after i h ≡ ltb 0 (bit (eqb (getD order i 0) h) + count (λ x. eqb x h) (drop (i + 1) order))
@@ -209,3 +211,17 @@ module _ (columns j : ℕ) (places order : List ℕ) (t : List Float) (o : Order
 pub record Wander (columns j : ℕ) (places order : List ℕ) (t : List Float) (i above rank : ℕ) (u : List Float) : Type 0 where
   pub ordered : Ordered t columns j places order
   pub walk : Walk columns j places order t ordered i above rank u
+
+-- the row before place i, and where its entry stands
+module _ {columns j : ℕ} {places order : List ℕ} {t : List Float} {i above rank : ℕ} {u : List Float} (w : Wander columns j places order t i above rank u) (some : 0 < i) (h : i ≤ length order) where
+  pub row-there : getD order (i - 1) 0 < length places
+  row-there = row-lt columns j places order t (w .ordered) (i - 1) (omega arith)
+
+  pub row-few : getD order (i - 1) 0 < tableRowsMost
+  row-few = omega (arith, row-there, w .ordered .most)
+
+  pub entry-small : getD order (i - 1) 0 * columns + j < 131072
+  entry-small = inside-small (length places) columns (getD order (i - 1) 0) j (w .ordered .most) (w .ordered .columns-most) row-there (w .ordered .within)
+
+  pub entry-there : getD order (i - 1) 0 * columns + j < length u
+  entry-there = omega (arith, row-inside columns j places order t (w .ordered) (i - 1) (omega arith), w .walk .even)

@@ -1,10 +1,9 @@
 -- `put_ranks`. The invariant: the rows from place i of the order on have their ranks.
-use Prim.Native.Nat.{_-_, _≤_}
+use Prim.Native.Nat.{_≤_}
 use native.Mathlib.Omega.{arith}
 use mathlib.Core.Path.{_≡_, refl}
 use lib.ListN.{length, length-set}
-use Rattle.ranking.proofs.Ranked.{inside-small}
-use Rattle.ranking.proofs.Walking.{Wander, walk-start, row-lt, row-inside, walk-rank, walk-down, walk-end}
+use Rattle.ranking.proofs.Walking.{Wander, walk-start, row-there, row-few, entry-small, entry-there, walk-rank, walk-down, walk-end}
 use borrow.Author.Needs.{needs}
 use Rattle.ranking.proofs.column.put_ranks.Statement.{statement}
 use Rattle.ranking.proofs.column.put_ranks.Tie as tie
@@ -19,28 +18,13 @@ loop-holds : tie.Need-loop-holds Inv-loop μ-loop
 loop-holds c = let p = c .before .before .before .pre in (record { ordered = p; walk = walk-start _ _ _ _ _ p 0 }, omega arith, refl)
 
 cast-h : tie.Need-cast-h Inv-loop μ-loop
-cast-h c =
-    let l = c .before .before .loop .inv in
-    let o = l .0 .ordered in
-    let i = c .before .before .loop .i in
-    let r = row-lt _ _ _ _ _ o (i - 1) (omega (arith, l .1, c .before .loop-test .taken)) in
-    record { fits = omega (arith, r, o .most) }
+cast-h c = let l = c .before .before .loop .inv in record { fits = omega (arith, row-few (l .0) (omega (arith, c .before .loop-test .taken)) (l .1)) }
 
 mul-p : tie.Need-mul-p Inv-loop μ-loop
-mul-p c =
-    let l = c .before .before .loop .inv in
-    let o = l .0 .ordered in
-    let i = c .before .before .loop .i in
-    let r = row-lt _ _ _ _ _ o (i - 1) (omega (arith, l .1, c .before .loop-test .taken)) in
-    record { fits = omega (arith, r, o .most) }
+mul-p c = let l = c .before .before .loop .inv in record { fits = omega (arith, row-few (l .0) (omega (arith, c .before .loop-test .taken)) (l .1)) }
 
 shared-slice-read-p : tie.Need-shared-slice-read-p Inv-loop μ-loop
-shared-slice-read-p c =
-    let l = c .before .before .before .loop .inv in
-    let o = l .0 .ordered in
-    let i = c .before .before .before .loop .i in
-    let r = row-lt _ _ _ _ _ o (i - 1) (omega (arith, l .1, c .before .before .loop-test .taken)) in
-    r
+shared-slice-read-p c = let l = c .before .before .before .loop .inv in row-there (l .0) (omega (arith, c .before .before .loop-test .taken)) (l .1)
 
 whole-requires : tie.Need-whole-requires Inv-loop μ-loop
 whole-requires c κs =
@@ -49,37 +33,16 @@ whole-requires c κs =
     omega (arith, o .most, walk-rank _ _ _ _ _ o (l .0 .walk) (omega (arith, c .before .before .before .loop-test .taken)) (l .1) _ (c .rank-of .ensures))
 
 mul-table : tie.Need-mul-table Inv-loop μ-loop
-mul-table c =
-    let l = c .before .before .before .before .before .loop .inv in
-    let o = l .0 .ordered in
-    let i = c .before .before .before .before .before .loop .i in
-    let r = row-lt _ _ _ _ _ o (i - 1) (omega (arith, l .1, c .before .before .before .before .loop-test .taken)) in
-    let s = inside-small _ _ _ _ (o .most) (o .columns-most) r (o .within) in
-    record { fits = omega (arith, s) }
+mul-table c = let l = c .before .before .before .before .before .loop .inv in record { fits = omega (arith, entry-small (l .0) (omega (arith, c .before .before .before .before .loop-test .taken)) (l .1)) }
 
 add-table : tie.Need-add-table Inv-loop μ-loop
-add-table c =
-    let l = c .before .before .before .before .before .loop .inv in
-    let o = l .0 .ordered in
-    let i = c .before .before .before .before .before .loop .i in
-    let r = row-lt _ _ _ _ _ o (i - 1) (omega (arith, l .1, c .before .before .before .before .loop-test .taken)) in
-    let s = inside-small _ _ _ _ (o .most) (o .columns-most) r (o .within) in
-    record { fits = omega (arith, s) }
+add-table c = let l = c .before .before .before .before .before .loop .inv in record { fits = omega (arith, entry-small (l .0) (omega (arith, c .before .before .before .before .loop-test .taken)) (l .1)) }
 
 mul-table-2 : tie.Need-mul-table-2 Inv-loop μ-loop
-mul-table-2 c =
-    let l = c .before .before .before .before .before .loop .inv in
-    let o = l .0 .ordered in
-    let i = c .before .before .before .before .before .loop .i in
-    let r = row-lt _ _ _ _ _ o (i - 1) (omega (arith, l .1, c .before .before .before .before .loop-test .taken)) in
-    let s = inside-small _ _ _ _ (o .most) (o .columns-most) r (o .within) in
-    record { fits = omega (arith, s) }
+mul-table-2 c = let l = c .before .before .before .before .before .loop .inv in record { fits = omega (arith, entry-small (l .0) (omega (arith, c .before .before .before .before .loop-test .taken)) (l .1)) }
 
 slice-write-table : tie.Need-slice-write-table Inv-loop μ-loop
-slice-write-table c =
-    let l = c .before .before .before .before .before .loop .inv in
-    let o = l .0 .ordered in
-    omega (arith, l .2, row-inside _ _ _ _ _ o (c .before .before .before .before .before .loop .i - 1) (omega (arith, l .1, c .before .before .before .before .loop-test .taken)))
+slice-write-table c = let l = c .before .before .before .before .before .loop .inv in entry-there (l .0) (omega (arith, c .before .before .before .before .loop-test .taken)) (l .1)
 
 loop-again : tie.Need-loop-again Inv-loop μ-loop
 loop-again c =
