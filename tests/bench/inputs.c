@@ -46,6 +46,14 @@ static void make_cents(const struct recipe *r, double *values)
         values[i] = (double)(int)(300 * noise());
 }
 
+/* One far off in the first row. */
+static void make_crowd(const struct recipe *r, double *values)
+{
+    make_noise(r, values);
+    for (size_t i = 0; i < r->rows * r->columns; i++)
+        values[i] = i < r->columns ? -1e300 : 1 + values[i] * 0x1p-20;
+}
+
 static void make_winners(const struct recipe *r, double *values)
 {
     make_noise(r, values);
@@ -261,6 +269,8 @@ void make_table(const struct recipe *r, size_t number, struct table *t)
         make_noise(r, values);
     else if (r->pattern == CENTS)
         make_cents(r, values);
+    else if (r->pattern == CROWD)
+        make_crowd(r, values);
     else if (r->pattern == LADDER)
         make_ladder(r, values);
     else if (r->pattern == FEW)

@@ -15,6 +15,7 @@ enum pattern {
     SLOPE,   /* noise; observed values fall from column to column, and with k = 4 each figure is above those before */
     NOISE,   /* all values of a column are different */
     CENTS,   /* noise in whole cents: each column has equal values */
+    CROWD,   /* all values of a column but one differ in their last bits alone: a sort by top bits does nothing */
     LADDER,  /* each column lies above all later ones: step 1 rejects k columns, each later step one */
     RISING,  /* as a ladder, with every column in this order from row to row */
     FALLING,
