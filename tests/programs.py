@@ -6,6 +6,8 @@ takes each class below together with one that says which program it is:
 
     name    the program, and the crate that it is proved in
     text    what it prints for an input, by the reference
+    stored  of `Samples`: the sample that the crate's stored run reads
+    share   of `Inputs`: one in so many of the generated files is put to it
 """
 
 import errno

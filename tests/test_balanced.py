@@ -15,6 +15,8 @@ class Balanced:
 
 
 class Samples(Balanced, programs.Samples, unittest.TestCase):
+    stored = "saffron.trial"  # W's verdicts are the plain ones
+
     def test_w(self):
         self.assertEqual(self.printed(programs.W), "trial 3 2 1 2 8\nstep 1 7\nstep 2 7\n"
                                                    "0042 rejected 1 1\n7 kept 2 3\nend 1\n")

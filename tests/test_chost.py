@@ -19,7 +19,7 @@ from generators.kinds import TableCase
 from reference import balanced, ccall
 from reference.adjusted import figures_refusal
 from reference.refusals import Refused
-from reference.table import Rejected
+from reference.table import Rejected, table_refusal
 from reference.trial import full_run
 from reference.trialfile import read
 
@@ -202,6 +202,26 @@ def balanced_figures_call(case) -> Call:
                 struct.pack("<I", result) + value_places(work) + figure_places(figures))
 
 
+def balanced_verdicts_call(case) -> Call:
+    """An accepted table case: the verdicts of its balanced table."""
+    given = (case.rows, case.columns, case.k, case.a, case.b, case.observed)
+    work, buffer = [float(MARK)] * case.rows, bytearray([MARK]) * case.columns
+    values = balanced.table_balanced(case.values, case.rows, case.columns)
+    result = ccall.on_table(values, *given, work, buffer)
+    return Call(f"{case.name}, balanced verdicts",
+                b"D" + struct.pack("<9Q", len(case.values), *given, case.rows, case.columns)
+                + packed(case.values),
+                struct.pack("<I", result) + value_places(work) + buffer + bytes([MARK]) * GUARD)
+
+
+def balanced_verdicts_calls():
+    """One in three of the accepted tables for full runs."""
+    cases = (case for case in every_case_of("table")
+             if table_refusal(case.values, case.rows, case.columns, case.k, case.a, case.b,
+                              case.observed) is None)
+    return map(balanced_verdicts_call, islice(cases, 0, None, 3))
+
+
 def balanced_figures_calls():
     """One in five of the accepted tables for adjusted figures."""
     cases = (case for case in every_case_of("adjusted")
@@ -287,6 +307,12 @@ class Driver(unittest.TestCase):
     def test_balanced_tables(self):
         calls = list(balanced_calls())
         self.assertEqual(results(calls), {0, 104, 109, 111, 112})
+        self.compare(calls, TABLE_BALANCED_STACK)
+
+    def test_verdicts_of_balanced_tables(self):
+        """One call hands its table to the other."""
+        calls = list(balanced_verdicts_calls())
+        self.assertGreaterEqual(results(calls), {0, 1, 2, 3})
         self.compare(calls, TABLE_BALANCED_STACK)
 
     def test_figures_of_balanced_tables(self):

@@ -51,7 +51,7 @@ static void make_crowd(const struct recipe *r, double *values)
 {
     make_noise(r, values);
     for (size_t i = 0; i < r->rows * r->columns; i++)
-        values[i] = i < r->columns ? -1e300 : 1 + values[i] * 0x1p-20;
+        values[i] = i < r->columns ? -1e300 : 1 + (8 + values[i]) * 0x1p-20;
 }
 
 static void make_winners(const struct recipe *r, double *values)

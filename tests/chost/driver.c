@@ -9,6 +9,7 @@
  *   V  as F. Verdicts of the balanced table of a trial
  *   B  table length, rows, columns, buffer length; the table's values. The balanced table
  *   C  as A. Two calls: the balanced table, and then its adjusted figures; the answer is that of the second
+ *   D  as T. Two calls: the balanced table, and then its verdicts
  * The answer on standard output is the result (32 bits), then every place of each lent buffer and GUARD places beyond
  * it; of a G frame the last buffer has one place, for the rows. All of these hold MARK before the call, in each byte
  * but where places are f64 as a value. At the end standard error tells the most stack that a call has used. The build
@@ -98,7 +99,15 @@ static void call_table_balanced(void)
     result = becardlarder_table_balanced(lent(data, n[0]), n[0], n[1], n[2], lent(balanced, n[3]), n[3]);
 }
 
-static void call_both(void)
+static void call_balanced_verdicts(void)
+{
+    result = becardlarder_table_balanced(data, n[0], n[1], n[2], balanced, n[0]);
+    if (result == 0)
+        result = becardlarder_table_verdicts(balanced, n[0], n[1], n[2], n[3], n[4], n[5], n[6], lent(work, n[7]), n[7],
+                                             lent(verdicts, n[8]), n[8]);
+}
+
+static void call_balanced_figures(void)
 {
     result = becardlarder_table_balanced(data, n[0], n[1], n[2], balanced, n[0]);
     if (result == 0)
@@ -176,16 +185,18 @@ static void file_case(void (*call_it)(void))
     free(verdicts);
 }
 
-static void table_case(void)
+static void table_case(void (*call_it)(void))
 {
     read_case(9, sizeof(double));
+    balanced = marked_values(n[0]); /* a place for each value; of a D frame it takes the balanced table */
     lend_work(n[7]);
     lend_verdicts(n[8]);
-    on_stack(call_table);
+    on_stack(call_it);
     write_all(&result, sizeof result);
     write_all(work, (n[7] + GUARD) * sizeof *work);
     write_all(verdicts, n[8] + GUARD);
     free(data);
+    free(balanced);
     free(work);
     free(verdicts);
 }
@@ -237,7 +248,7 @@ static void put_case(int kind)
     if (kind == 'F')
         file_case(call_file);
     else if (kind == 'T')
-        table_case();
+        table_case(call_table);
     else if (kind == 'G')
         file_adjusted_case();
     else if (kind == 'A')
@@ -247,7 +258,9 @@ static void put_case(int kind)
     else if (kind == 'B')
         table_balanced_case();
     else if (kind == 'C')
-        table_adjusted_case(call_both);
+        table_adjusted_case(call_balanced_figures);
+    else if (kind == 'D')
+        table_case(call_balanced_verdicts);
     else
         fail("unknown call");
 }

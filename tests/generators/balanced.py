@@ -122,12 +122,12 @@ def small_tables(rng, how_many):
 
 
 def tiny_tables():
-    """One row and one column, and every table of zeros, of both signs, and ones of some sizes."""
+    """One row and one column, and every table of zeros and ones of some sizes; a row has one sign of zero, the next the other."""
     for value in (0.0, -0.0, 1.5, -TINY):
         yield case_of(f"1x1-{value}", (value,), 1, 1)
     for rows, columns in ((2, 1), (1, 2), (3, 1), (2, 2), (3, 2), (2, 3)):
         for bits in range(2 ** (rows * columns)):
-            cells = tuple((1.0, 0.0 if i % 2 else -0.0)[bits >> i & 1]
+            cells = tuple((1.0, 0.0 if i // columns % 2 else -0.0)[bits >> i & 1]
                           for i in range(rows * columns))
             yield case_of(f"bits-{rows}x{columns}-{bits:b}", cells, rows, columns)
 

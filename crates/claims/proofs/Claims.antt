@@ -85,6 +85,7 @@ use Rattle.rendering.proofs.Inputs as inputs
 use Rattle.rendering.proofs.PrintableFiles as printing
 use Rattle.streams.proofs.Programs as programs
 use Rattle.claims.proofs.Files as files
+use Rattle.claims.proofs.BalancedFigures.{figures-accepted}
 
 -- ==== 1. Total ====
 
@@ -305,7 +306,7 @@ module _ (t : List Float) (rows columns k a b observed : ℕ) where
   balanced-buffers out work h = let cs = balancedChecks t rows columns k a b observed (length out) (length work) in (answered cs _ (λ _. out) .gives h, answered cs _ (λ _. work) .gives h)
 
   module _ (ok : tableRefusal t rows columns k a b observed ≡ 0) where
-    -- the balanced table of an accepted table is accepted, by every call over tables
+    -- the balanced table of an accepted table is accepted, with the same k, level and observed row
     pub balanced-accepted : tableRefusal (balancedTable t rows columns) rows columns k a b observed ≡ 0
     balanced-accepted = accepted-balanced t rows columns k a b observed ok
 
@@ -313,6 +314,10 @@ module _ (t : List Float) (rows columns k a b observed : ℕ) where
     pub balanced-counts : tableRun (balancedTable t rows columns) rows columns k a b observed .counts ≡ tableRun t rows columns k a b observed .counts
     unfolding balancedRun
     balanced-counts = counted.balanced-counts t rows columns k a b observed (checked.accepted t rows columns k a b observed ok)
+
+-- and by the call for adjusted figures: those of a balanced table come from it as those of any table
+pub balanced-figures : (t : List Float) (rows columns k observed : ℕ) → firstRefusal (adjustmentChecks t rows columns k observed) ≡ 0 → firstRefusal (adjustmentChecks (balancedTable t rows columns) rows columns k observed) ≡ 0
+balanced-figures = figures-accepted
 
 -- a trial's balanced run is that of its table, with row 0 observed; the balanced table stands in the table's buffer
 module _ (t : Trial) where

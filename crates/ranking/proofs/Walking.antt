@@ -1,5 +1,7 @@
 -- Why the ranks that are handed out from the last row down are the ranks of the column.
 --   ranks                 how many places stand no higher than v, counted along the order
+--   Rank                  what is known of the rank that was handed out last
+--   after                 a row stands at place i of the order or later
 --   Walk, walk-..         the ranks of the rows from place i of the order on are put into column j; Wander: with what that rests on
 --   row-.., entry-..      the next row, and the place of its entry
 use Prim.Native.Nat.{ℕ, zero, suc, _+_, _-_, _*_, _/_, _%_, _≤_, _<_}
@@ -51,9 +53,6 @@ module _ (places order : List ℕ) (s : Sorted places order) (even : length orde
       ∙ sym (countBelow-list test order 0)
       ∙ ap (λ (n : ℕ). countBelow n (λ i. leb (keyOf places (getD order i 0)) v)) even
 
-  abbrev at : ℕ → ℕ
-  at i = keyOf places (getD order i 0)
-
   rises-to : (i j : ℕ) → i ≤ j → j < length places → keyOf places (getD order i 0) ≤ keyOf places (getD order j 0)
   rises-to i j h k = go (ℕ-discrete i j)
     where
@@ -75,9 +74,6 @@ module _ (places order : List ℕ) (s : Sorted places order) (even : length orde
   rank-next : (i above rank : ℕ) → i < length places → Rank (i + 1) above rank → cond (eqb (keyOf places (getD order i 0)) above) rank (i + 1) ≡ count (λ q. leb q (keyOf places (getD order i 0))) places
   rank-next i above rank h r = go (ℕ-discrete (i + 1) (length places)) (ℕ-discrete (keyOf places (getD order i 0)) above)
     where
-      p : ℕ
-      p = keyOf places (getD order i 0)
-
       either : (b : Bool) (x y : ℕ) → x ≡ y → cond b x y ≡ y
       either true x y e = e
       either false x y e = refl

@@ -39,7 +39,7 @@ pub(crate) fn places(table: &[f64], columns: usize, j: usize, out: &mut [u64])
     }
 }
 
-// The rank of a row, from the last one down: that of the row above it where their places are equal, and else how many rows stand so far.
+// The rank of a row, from the last one down: that of the row above it where their places are equal, and else how many rows stand up to it, itself counted.
 fn rank_of(p: u64, above: u64, rank: usize, standing: usize) -> usize
     ensures { λ r. ⌜ r ≡ cond (eqb p above) rank standing ⌝ }
 {

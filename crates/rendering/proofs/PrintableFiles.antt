@@ -1,5 +1,5 @@
 -- What is known of an accepted file, so that its text fits and nothing is cut off.
---   wholeCents x         the value is a whole number of cents, within what f64 holds exactly
+--   wholeCents x         the value is a whole number, of cents or a rank, within what f64 holds exactly
 --   PrintableRun run     the full run of every accepted trial can be printed; plain-printable, balanced-printable: that of its table and of its balanced table
 --   printed-cents, printed-ranks     the printed number is the critical value
 --   trial-printable      an accepted trial with its full run can be printed

@@ -2,6 +2,7 @@
 --   Printable r          a full run with few enough steps, whose critical values are whole numbers
 --   textOf f             the text for what a file's full run answers: the report, or the refusal
 --   PrintableFile f      what is known of an accepted file's trial and run, so that the text fits
+--   acceptedBy run t     what the file of the trial t answers, by a full run of it
 --   fileBy run bytes     what a file answers, by a full run of its trial
 use Prim.Native.Nat.{ℕ, _≤_, _<_}
 use mathlib.Core.List.{List}

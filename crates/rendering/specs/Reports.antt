@@ -9,7 +9,7 @@
 --   trialText t r          the report of a trial with the full run r
 --   reportBy run bytes     all that is printed for a file, by a full run of its trial: the report of that run, or the file's refusal
 --   reportOf bytes         the report: by the full run of the trial's table
---   balancedReportOf bytes the balanced report (document 02, §3): by the full run of its balanced table, whose critical values are ranks
+--   balancedReportOf bytes     the balanced report (document 02, §3): by the full run of its balanced table, whose critical values are ranks
 use Prim.Native.Nat.{ℕ}
 use Prim.Native.String.{String}
 use mathlib.Core.List.{List, [], _∷_, _++_}

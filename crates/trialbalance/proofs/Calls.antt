@@ -46,9 +46,6 @@ module _ (t : Trial) (s : TableSize) (q : s ≡ sizeOf t) (z : s .refusal ≡ 0)
   few-rows = omega (arith, rows-are, good t s q z .laid .rows-most)
 
   module _ (table : List Float) (h : s .rows * s .columns ≤ length table) (w : List Float) (e : w ≡ tableBuffer t table) where
-    abbrev total : ℕ
-    total = s .rows * s .columns
-
     pub rankable : Rankable (take (s .rows * s .columns) w) (s .rows) (s .columns)
     rankable =
         let acc = tables.accepted (tableOf t) (rowTotal t) (t .shape .offers) (t .shape .k) (t .level .a) (t .level .b) 0 (table-accepted t (good t s q z)) in

@@ -1,5 +1,6 @@
 -- What is asked of a trial file's trial, and its full run.
 --   buffers-hold                the buffers of the largest trial are long enough for every accepted one
+--   pairOf                      a trial with its run
 --   Told, file-refused, file-done     an answer of any kind, beside the file's trial: the file is turned away, or its trial is asked
 --   run-refused, run-done             the same of the full run
 use Prim.Native.Nat.{ℕ}

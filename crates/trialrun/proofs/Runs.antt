@@ -2,7 +2,7 @@
 --   table-accepted, table-runs     the table of an accepted trial is an accepted one, whatever the work buffer's places, if they are enough
 --   run-turned, -short, -cramped, -free     what the call gives, by the size that it is told
 --   call-turned, -short, -cramped           the same of an answer of any kind with both buffers
---   filled, front, table-filled, call-done  the table in its buffer, and an answer of any kind that is asked of that table
+--   same-total, filled, front, table-filled, call-done  the table in its buffer, and an answer of any kind that is asked of that table
 --   trial-run, trial-work                   the full run of that table
 --   run-sizes                      M and e of the full run: the rows of the trial's table, and floor(M × a/b)
 use Prim.Native.Nat.{ℕ, _*_, _≤_, _<_}
