@@ -9,7 +9,8 @@ from functools import singledispatch
 
 from expected import expected
 from frames import value_number
-from generators.kinds import FileCase, LookCase, RecordCase, StepCase, TableCase, WalkCase
+from generators.kinds import (BalancedRunCase, FileCase, LookCase, RecordCase, StepCase, TableCase,
+                              WalkCase)
 from reference.method import Record
 from reference.refusals import Refused
 from reference.table import Kept, Rejected
@@ -60,16 +61,25 @@ def _(case: RecordCase) -> str:
     made, cells = answers["table"]
     ran, run_cells, work = answers["full_run"]
     length = 0 if number_of(written) else len(written)
+    balanced, balanced_cells, balanced_work = answers["balanced_run"]
     return (line("check", 1, answers["check"])
             + line("write", 2, number_of(written), length, *data)
             + line("table", 16, number_of(made), *values_numbers(cells))
-            + line("run", 24, *run_numbers(ran), *values_numbers(work), *values_numbers(run_cells)))
+            + line("run", 24, *run_numbers(ran), *values_numbers(work), *values_numbers(run_cells))
+            + line("run", 8, *run_numbers(balanced), *values_numbers(balanced_work),
+                   *values_numbers(balanced_cells)))
 
 
 @text.register
 def _(case: TableCase) -> str:
     ran, work = expected(case)["full_run"]
     return line("run", 24, *run_numbers(ran), *values_numbers(work))
+
+
+@text.register
+def _(case: BalancedRunCase) -> str:
+    ran, out, work = expected(case)["full_run"]
+    return line("run", 24, *run_numbers(ran), *values_numbers(work), *values_numbers(out))
 
 
 @text.register

@@ -8,7 +8,7 @@ those that only the tests from C take, which store nothing.
 import random
 
 from generators.adjusted import adjusted_cases
-from generators.balanced import balanced_cases
+from generators.balanced import balanced_cases, balanced_run_cases
 from generators.examples import example_cases
 from generators.files import file_cases, further_file_cases
 from generators.order import further_order_cases, order_cases
@@ -31,6 +31,7 @@ FAMILIES = {
     "order": order_cases,
     "putback": putback_cases,
     "putback_step": putback_step_cases,
+    "balanced_run": balanced_run_cases,
 }
 FURTHER = {"file": further_file_cases, "table": further_table_cases, "order": further_order_cases,
            "putback": further_putback_cases, "adjusted": adjusted_cases, "balanced": balanced_cases}

@@ -2,8 +2,9 @@
 
 from functools import singledispatch
 
-from generators.kinds import FileCase, LookCase, RecordCase, StepCase, TableCase, WalkCase
-from reference import ccall, report, run, table, trial, trialfile, view
+from generators.kinds import (BalancedRunCase, FileCase, LookCase, RecordCase, StepCase, TableCase,
+                              WalkCase)
+from reference import balanced, ccall, report, run, table, trial, trialfile, view
 from reference.refusals import Refused
 
 MARK = 7  # what each place of a lent buffer holds before the call
@@ -31,10 +32,13 @@ def _(case: RecordCase) -> dict:
     data = bytearray([MARK]) * case.file_room
     cells = [float(MARK)] * case.table_room
     run_cells, work = list(cells), [float(MARK)] * case.work_room
+    balanced_cells, balanced_work = list(cells), list(work)
     return {"check": trial.trial_refusal(case.trial) or 0,
             "write": (trialfile.write(case.trial, data), bytes(data)),
             "table": (trial.table_of(case.trial, cells), cells),
-            "full_run": (trial.full_run(case.trial, run_cells, work), run_cells, work)}
+            "full_run": (trial.full_run(case.trial, run_cells, work), run_cells, work),
+            "balanced_run": (balanced.trial_run(case.trial, balanced_cells, balanced_work),
+                             balanced_cells, balanced_work)}
 
 
 @expected.register
@@ -43,6 +47,14 @@ def _(case: TableCase) -> dict:
     answer = table.full_run(case.values, case.rows, case.columns, case.k, case.a, case.b,
                             case.observed, work)
     return {"full_run": (answer, work)}
+
+
+@expected.register
+def _(case: BalancedRunCase) -> dict:
+    out, work = [float(MARK)] * case.out_room, [float(MARK)] * case.work_room
+    answer = balanced.full_run(case.values, case.rows, case.columns, case.k, case.a, case.b,
+                               case.observed, out, work)
+    return {"full_run": (answer, out, work)}
 
 
 @expected.register

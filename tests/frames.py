@@ -7,10 +7,12 @@ kind 1  the seed
 kind 2  a file: its length, then its bytes as they are
 kind 3  a record: 16 times a code and its printed digits; a, b, k, offers, pairs; how many
         differences are told (the others are zero) and those, each with 2^31 added;
-        what the table holds before the table call, and before the full run
+        what the table holds before the table call, and before the full run; what the table and
+        the work buffer hold before the balanced run
 kind 4  a full run of a table; kind 5 a beginning; kind 6 the steps of a run as it is given: the
         table; rows, columns, k, a, b, observed, rejected, steps, ended; 1 for a view, else 0
 kind 7  a place: the table; rows, columns, row, column
+kind 8  a balanced full run: as kind 4, with the room of the balanced table's buffer for the view
 
 A table is how many of its values are told, the period, and those values; each later one is the one
 that stands a period before. A value is its bits, the first 24 of them put last, so that small whole
@@ -22,8 +24,8 @@ import struct
 from functools import singledispatch
 
 from expected import MARK, expected
-from generators.kinds import (FileCase, LookCase, RecordCase, Repeated, StepCase, TableCase,
-                              WalkCase)
+from generators.kinds import (BalancedRunCase, FileCase, LookCase, RecordCase, Repeated, StepCase,
+                              TableCase, WalkCase)
 from reference.refusals import Refused
 from reference.run import Run
 
@@ -78,16 +80,25 @@ def _(case: FileCase) -> bytes:
 def _(case: RecordCase) -> bytes:
     t = case.trial
     told = max((i + 1 for i, d in enumerate(t.differences) if d), default=0)
-    marks = table(Repeated((), (float(MARK),), case.table_room))
+    marks, work_marks = (table(Repeated((), (float(MARK),), room))
+                         for room in (case.table_room, case.work_room))
     return (lent(3, case.file_room, case.table_room, case.work_room)
             + numbers(*(n for offer in zip(t.codes, t.digits) for n in offer))
             + numbers(t.a, t.b, t.k, t.offers, t.pairs)
-            + numbers(told, *(d + 2 ** 31 for d in t.differences[:told])) + 2 * marks)
+            + numbers(told, *(d + 2 ** 31 for d in t.differences[:told]))
+            + 3 * marks + work_marks)
 
 
 @frame.register
 def _(case: TableCase) -> bytes:
     return over_table(4, case.values, case.work_room, case.viewed, case)
+
+
+@frame.register
+def _(case: BalancedRunCase) -> bytes:
+    if case.out_room > LARGEST_WORK:
+        raise ValueError(f"room for {case.out_room}")
+    return over_table(8, case.values, case.work_room, case.out_room, case)
 
 
 @frame.register
@@ -110,8 +121,8 @@ def _(case: LookCase) -> bytes:
             + numbers(case.rows, case.columns, case.row, case.column))
 
 
-def over_table(kind, values, work_room, viewed, run) -> bytes:
-    """A case with a lent table, and a run or what has its figures."""
+def over_table(kind, values, work_room, last, run) -> bytes:
+    """A case with a lent table, a run or what has its figures, and the last number of its kind."""
     state = (run.rejected, run.steps, run.ended) if isinstance(run, Run) else (0, 0, 0)
     return (lent(kind, table_room=len(values), work_room=work_room) + table(values)
-            + numbers(run.rows, run.columns, run.k, run.a, run.b, run.observed, *state, viewed))
+            + numbers(run.rows, run.columns, run.k, run.a, run.b, run.observed, *state, last))

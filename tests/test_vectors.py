@@ -11,7 +11,8 @@ from itertools import combinations
 from cases import SEED, all_cases, every_case_of
 from expected import expected
 from generators import files, order, records
-from generators.kinds import FileCase, LookCase, RecordCase, StepCase, TableCase, WalkCase
+from generators.kinds import (BalancedRunCase, FileCase, LookCase, RecordCase, StepCase, TableCase,
+                              WalkCase)
 from make_vectors import CRATE, files as made_files
 from reference.refusals import Refused, breaks_3, table_breaks_4
 from reference.report import report
@@ -69,9 +70,9 @@ class Covered(unittest.TestCase):
     def of(self, kind):
         return [case for case in self.cases.values() if type(case) is kind]
 
-    def orders(self, kind, broken, answer, order):
-        """Each number decides where it alone is broken, and before each later one; in both ways."""
-        for viewed in (False, True):
+    def orders(self, kind, broken, answer, order, ways=(False, True)):
+        """Each number decides where it alone is broken, and before each later one; by itself and viewed."""
+        for viewed in ways:
             alone, before = set(), set()
             for case in (case for case in self.of(kind) if case.viewed == viewed):
                 numbers, found = sorted(broken(case), key=order.index), answer(expected(case))
@@ -84,6 +85,19 @@ class Covered(unittest.TestCase):
     def test_orders_of_a_table(self):
         self.orders(TableCase, lambda case: of_figures(case) + of_lent(case, case),
                     lambda answers: number_of(answers["full_run"][0]), (4, 3, 9, 10, 11, 12))
+
+    def test_orders_of_a_balanced_run(self):
+        """As of a table, with 12 for either buffer, or for both."""
+        short = set()
+
+        def broken(case):
+            rooms = case.work_room < case.rows, case.out_room < case.rows * case.columns
+            numbers = {*of_figures(case), *of_lent(case, case), *[12] * any(rooms)}
+            short.update([rooms] * (numbers == {12}))
+            return numbers
+        self.orders(BalancedRunCase, broken, lambda answers: number_of(answers["full_run"][0]),
+                    (4, 3, 9, 10, 11, 12), ways=(False,))
+        self.assertEqual(short, {(True, False), (False, True), (True, True)})
 
     def test_orders_of_a_beginning(self):
         self.orders(WalkCase, of_figures, lambda answers: number_of(answers["begin"]), (4, 3, 10))
@@ -114,8 +128,8 @@ class Covered(unittest.TestCase):
         rooms = [case for case in self.of(RecordCase) if case.name.startswith("record-room")]
         refused = Counter(tuple(number_of(answer[0]) for call, answer in expected(case).items()
                                 if call != "check") for case in rooms)
-        self.assertEqual(set(refused), {(0, 0, 0), (12, 0, 0), (0, 12, 12), (0, 0, 12),
-                                        (12, 12, 12)})
+        self.assertEqual(set(refused), {(0, 0, 0, 0), (12, 0, 0, 0), (0, 12, 12, 12), (0, 0, 12, 12),
+                                        (12, 12, 12, 12)})
 
     def test_orders_of_a_file(self):
         """The defects of the generator, alone and in pairs; 1 before all."""

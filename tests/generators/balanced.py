@@ -7,9 +7,9 @@ from the first: values that differ in few of their bytes, crowds, and one value 
 
 from itertools import combinations, product
 
-from . import order
+from . import order, tables
 from .adjusted import few_ranks, near_zero, small_cents
-from .kinds import BalancedCase, Repeated
+from .kinds import BalancedCase, BalancedRunCase, Repeated
 from .order import ORDERS, of_bits, stepped
 from .tables import INF, MOST, NAN, STYLES, TINY, figure_defects
 
@@ -191,3 +191,20 @@ def refused_tables():
         yield BalancedCase(f"balanced-{name}", **{**good, **change})
     for (one, first), (two, second) in combinations(listed.items(), 2):
         yield BalancedCase(f"balanced-{one}-{two}", **{**good, **second, **first})
+
+
+# ---- full runs
+
+
+def balanced_run_cases(rng):
+    """Tables of each style, and the refused ones of a plain run, with room for the table and without."""
+    for case in tables.accepted_tables(rng, 40):
+        yield run_case(case, case.rows * case.columns + rng.choice((0, 0, 1, 7)))
+    for case, room in product(tables.refused_tables(), (6, 5)):
+        yield run_case(case, room)
+
+
+def run_case(case, out_room) -> BalancedRunCase:
+    """The table of a full run for a balanced one."""
+    figures = {**vars(case), "name": f"balanced-run-{case.name}-room-{out_room}"}
+    return BalancedRunCase(**figures, out_room=out_room)

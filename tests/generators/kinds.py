@@ -68,6 +68,13 @@ class BalancedCase:
     out_room: int
 
 
+@dataclass(frozen=True)
+class BalancedRunCase(TableCase):
+    """A lent table for a balanced full run, and a buffer of so many places for the balanced table."""
+
+    out_room: int = 0
+
+
 class WalkCase(TableCase):
     """A run that is begun over a lent table and taken step by step until a step is refused."""
 

@@ -11,6 +11,7 @@ use lib.Ieee.{Float}
 use Rattle.refusals.specs.Answers.{answer, firstRefusal, afterwards}
 use Rattle.refusals.specs.Buffers.{written}
 use Rattle.refusals.proofs.Answers.{answer-map, first-short}
+use Rattle.runs.specs.Stepdown.{Outcome}
 use Rattle.runs.specs.FullRuns.{acceptedRun}
 use Rattle.runs.specs.Tables.{tableRun}
 use Rattle.verdicts.specs.Verdicts.{rejectedCount}
@@ -21,7 +22,7 @@ use Rattle.trial.proofs.Accepted.{accepted}
 use Rattle.words.specs.Words.{wordsOf}
 use Rattle.trialfile.specs.Files.{trialOf, fileChecks, fileRefusal}
 use Rattle.trialfile.proofs.Taken.{read-accepted}
-use Rattle.trialrun.specs.FileRuns.{refusedFile}
+use Rattle.trialrun.specs.FileRuns.{refusedFile, acceptedBy, fileBy}
 use Rattle.trialrun.specs.declared.FileRun.{FileRun}
 use Rattle.host.specs.Calls.{stepBytes, fileOffers, trialVerdictsChecks}
 use Rattle.host.specs.Internal.{Tellable, Told}
@@ -56,14 +57,17 @@ module _ (f : FileRun) (buf : List ℕ) where
 -- ---- a file, whose trial is run over any table
 
 module _ (table : Trial → List Float) (bytes : List ℕ) where
+  abbrev run : Trial → Outcome
+  run t = tableRun (table t) (rowTotal t) (t .shape .offers) (t .shape .k) (t .level .a) (t .level .b) 0
+
   abbrev read : Trial
   read = trialOf (wordsOf bytes)
 
   abbrev done : FileRun
-  done = record { trial = read; run = acceptedRun (tableRun (table read) (rowTotal read) (read .shape .offers) (read .shape .k) (read .level .a) (read .level .b) 0) }
+  done = acceptedBy run read
 
   abbrev ran : FileRun
-  ran = answer (fileChecks bytes) done refusedFile
+  ran = fileBy run bytes
 
   number-is : ran .run .refusal ≡ firstRefusal (fileChecks bytes)
   unfolding firstRefusal acceptedRun

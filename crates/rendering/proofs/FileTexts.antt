@@ -10,13 +10,13 @@ use Rattle.trial.specs.declared.Trial.{Trial}
 use Rattle.verdicts.specs.Verdicts.{rejectedCount}
 use Rattle.words.specs.Words.{wordsOf}
 use Rattle.trialfile.specs.Files.{trialOf, fileChecks}
-use Rattle.trialrun.specs.FileRuns.{refusedFile}
+use Rattle.trialrun.specs.FileRuns.{refusedFile, acceptedBy, fileBy}
 use Rattle.trialrun.specs.declared.FileRun.{FileRun}
 use Rattle.text.specs.Ascii.{ascii}
 use Rattle.text.specs.Text.{decimal, line, linesTo, refusedText}
 use Rattle.text.proofs.Rendered.{for-refused, for-accepted, for-answer}
 use Rattle.rendering.specs.Reports.{headLine, stepLineAt, offerLineAt, trialText, reportBy}
-use Rattle.rendering.specs.Internal.{textOf, acceptedBy, fileBy}
+use Rattle.rendering.specs.Internal.{textOf}
 
 module _ (f : FileRun) where
   pub text-refused : (f .run .refusal ≡ 0 → ⊥) → refusedText (f .run .refusal) ≡ textOf f
@@ -32,5 +32,5 @@ module _ (f : FileRun) where
 
 -- what is composed for the answer of a file's full run is the file's report, by that run
 pub text-by : (run : Trial → Outcome) (bytes : List ℕ) → textOf (fileBy run bytes) ≡ reportBy run bytes
-unfolding reportBy fileBy textOf acceptedRun
+unfolding reportBy textOf acceptedRun
 text-by run bytes = for-answer (λ (f : FileRun). f .run .refusal) (λ (f : FileRun). trialText (f .trial) (f .run)) (fileChecks bytes) (acceptedBy run (trialOf (wordsOf bytes))) refusedFile refl (λ n. refl)

@@ -19,12 +19,13 @@ use Rattle.trialfile.specs.Files.{trialOf, fileChecks, fileRefusal}
 use Rattle.trialfile.proofs.Taken.{read-accepted}
 use Rattle.trialrun.specs.TrialRuns.{trialRun}
 use Rattle.trialbalance.specs.TrialBalance.{trialBalancedRun}
+use Rattle.trialrun.specs.FileRuns.{acceptedBy}
 use Rattle.trialrun.specs.declared.FileRun.{FileRun}
 use Rattle.text.specs.Ascii.{ascii}
 use Rattle.text.specs.Text.{printed, decimal, decimalInt, cents, line, linesTo}
 use Rattle.text.proofs.Lengths.{printed-most, int-most, line-end, field, number, line-most, numbered-most, lines-most, answer-most}
 use Rattle.rendering.specs.Reports.{headLine, stepLine, verdictWord, verdictStep, offerLine, recordAt, decisionAt, stepLineAt, offerLineAt, trialText, reportBy, reportOf, balancedReportOf}
-use Rattle.rendering.specs.Internal.{PrintableFile, acceptedBy}
+use Rattle.rendering.specs.Internal.{PrintableFile}
 use Rattle.rendering.proofs.PrintableFiles.{PrintableRun, plain-printable, balanced-printable, trial-printable}
 
 -- ---- lines

@@ -44,11 +44,11 @@ use Rattle.balance.proofs.Balanced.{balanced-all, balancedTable-rows}
 use Rattle.tablebalance.specs.Answers.{balancedRun}
 use Rattle.trialrun.specs.TrialRuns.{trialRun}
 use Rattle.trialbalance.specs.TrialBalance.{trialBalancedRun}
-use Rattle.trialrun.specs.FileRuns.{refusedFile}
+use Rattle.trialrun.specs.FileRuns.{refusedFile, acceptedBy, fileBy}
 use Rattle.trialrun.specs.declared.FileRun.{FileRun}
 use Rattle.text.specs.Text.{cents}
 use Rattle.rendering.specs.Reports.{recordAt}
-use Rattle.rendering.specs.Internal.{Printable, PrintableFile, acceptedBy, fileBy}
+use Rattle.rendering.specs.Internal.{Printable, PrintableFile}
 use Rattle.text.proofs.Cents.{cents-exact}
 use Rattle.rendering.proofs.Values.{records-hold}
 use Rattle.refusals.proofs.Answers as answers
@@ -150,11 +150,11 @@ module _ (run : Trial → Outcome) (p : PrintableRun run) where
   module _ (bytes : List ℕ) where
     -- the number in the answer is the file's
     run-number : fileBy run bytes .run .refusal ≡ fileRefusal bytes
-    unfolding fileBy fileRefusal firstRefusal acceptedRun
+    unfolding fileRefusal firstRefusal acceptedRun
     run-number = answer-map (λ (f : FileRun). f .run .refusal) (fileChecks bytes) (acceptedBy run (trialOf (wordsOf bytes))) refusedFile
 
     pub printable-file : (f : FileRun) → f ≡ fileBy run bytes → f .run .refusal ≡ 0 → PrintableFile f
-    unfolding fileBy fileRefusal
+    unfolding fileRefusal
     printable-file f e h =
         let n : f .run .refusal ≡ fileRefusal bytes = ap (λ (g : FileRun). g .run .refusal) e ∙ run-number in
         subst PrintableFile (answers.accepted (acceptedBy run (trialOf (wordsOf bytes))) refusedFile (fileChecks bytes) (f .run .refusal) n h ∙ sym e) (trial-printable (trialOf (wordsOf bytes)) (read-accepted bytes (sym n ∙ h)))

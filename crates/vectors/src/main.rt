@@ -7,7 +7,7 @@ mod input; // the numbers of the input
 mod pen; // the lines of the output
 mod records; // cases of a trial given as a record
 mod steps; // cases of runs: their beginning, their steps
-mod tables; // cases of a lent table: full runs, and places of a view
+mod tables; // cases of a lent table: full runs, balanced ones, and places of a view
 mod trials; // trials in the input and in the output
 
 // A case of a table, which the input tells first.
@@ -17,6 +17,7 @@ fn over_table(kind: usize, cells: &mut [f64], work: &mut [f64]) {
         4 => tables::answer(cells, work),
         5 => steps::answer_begin(cells),
         6 => steps::answer(cells, work),
+        8 => tables::answer_balanced(cells, work),
         _ => tables::answer_look(cells),
     }
 }

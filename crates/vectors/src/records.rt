@@ -1,4 +1,4 @@
-// A trial given as a record: its check, its file, its table, its full run, with the lent buffers.
+// A trial given as a record: its check, its file, its table, its full run and its balanced one, with the lent buffers.
 use super::answers;
 use super::pen;
 use super::tables;
@@ -27,10 +27,19 @@ fn full_run(t: Trial, cells: &mut [f64], work: &mut [f64]) {
     pen::end(pen::values(p, cells));
 }
 
+fn balanced_run(t: Trial, cells: &mut [f64], work: &mut [f64]) {
+    tables::load(cells);
+    tables::load(work);
+    let f = trialbalance::balanced_run(t, cells, work);
+    let p = pen::values(answers::full_run(8, f), work);
+    pen::end(pen::values(p, cells));
+}
+
 pub(crate) fn answer(file: &mut [u8], cells: &mut [f64], work: &mut [f64]) {
     let t = trials::read();
     check(t);
     write(t, file);
     table(t, cells);
     full_run(t, cells, work);
+    balanced_run(t, cells, work);
 }

@@ -60,6 +60,30 @@ pub(crate) fn answer(cells: &[f64], work: &mut [f64]) {
     pen::end(pen::values(answers::full_run(24, f), work));
 }
 
+fn balanced(r: Run, cells: &[f64], out: &mut [f64], work: &mut [f64]) {
+    let f = tablebalance::balanced_run(
+        cells,
+        out,
+        work,
+        r.rows,
+        r.columns,
+        r.k,
+        r.a,
+        r.b,
+        r.observed,
+    );
+    let p = pen::values(answers::full_run(24, f), work);
+    pen::end(pen::values(p, out));
+}
+
+// The balanced full run, the work buffer and the buffer of the balanced table, each of whose places holds 7 before.
+pub(crate) fn answer_balanced(cells: &[f64], work: &mut [f64]) {
+    let r = run();
+    let mut out = [7.0f64; 4104];
+    let n = input::values_of(input::word(), &out);
+    balanced(r, cells, &mut out[..n], work);
+}
+
 // The value at a place of a view, by rows, columns, row and column: 1 and the value, or 0.
 pub(crate) fn answer_look(cells: &[f64]) {
     match view::look_at(
