@@ -8,7 +8,7 @@ use mathlib.Core.List.{List}
 use lib.ListN.{length}
 use lib.Dec.{T}
 use lib.Ieee.{Float}
-use Rattle.refusals.specs.Answers.{answer, firstRefusal, afterwards}
+use Rattle.refusals.specs.Answers.{firstRefusal}
 use Rattle.refusals.specs.Buffers.{written}
 use Rattle.refusals.proofs.Answers.{answer-map, first-short}
 use Rattle.runs.specs.Stepdown.{Outcome}
@@ -24,7 +24,7 @@ use Rattle.trialfile.specs.Files.{trialOf, fileChecks, fileRefusal}
 use Rattle.trialfile.proofs.Taken.{read-accepted}
 use Rattle.trialrun.specs.FileRuns.{refusedFile, acceptedBy, fileBy}
 use Rattle.trialrun.specs.declared.FileRun.{FileRun}
-use Rattle.host.specs.Calls.{stepBytes, fileOffers, trialVerdictsChecks}
+use Rattle.host.specs.Calls.{stepBytes, verdictsAnswer, verdictsBuffer, fileOffers, trialVerdictsChecks}
 use Rattle.host.specs.Internal.{Tellable, Told}
 use Rattle.host.proofs.StepBytes.{table-steps}
 use Rattle.host.proofs.Lent.{given-refused, given-short, given-done}
@@ -89,6 +89,6 @@ module _ (table : Trial → List Float) (bytes : List ℕ) where
     })
 
     pub file-told : (buf : List ℕ) (r : ℕ) (out : List ℕ) → Told f buf r out
-        → (r ≡ answer (trialVerdictsChecks bytes (length buf)) (rejectedCount (fileOffers bytes) (ran .run .decisions)) (λ n. 100 + n))
-        × (out ≡ afterwards (trialVerdictsChecks bytes (length buf)) (written (stepBytes (fileOffers bytes) (ran .run .decisions)) buf) buf)
+        → (r ≡ verdictsAnswer (trialVerdictsChecks bytes (length buf)) (fileOffers bytes) (ran .run .decisions))
+        × (out ≡ verdictsBuffer (trialVerdictsChecks bytes (length buf)) (fileOffers bytes) (ran .run .decisions) buf)
     file-told buf r out told = subst (λ (x : FileRun). Told x buf r out) e told (fileChecks bytes) (fileOffers bytes) number-is offers-are

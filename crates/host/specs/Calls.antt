@@ -1,14 +1,13 @@
 -- The calls for hosts written in C: on a trial file (document 01, "Report and C call"), and in the same style on a table. Definitions only.
--- A call answers the number of rejected, or 100 plus the refusal number.
 --   stepBytes n ds           the rejecting steps of the first n verdicts, 0 where one is kept
+--   verdictsAnswer cs n ds   what a call that tells verdicts returns, refused by the conditions cs or with the verdicts ds of n offers: the number of rejected, or 100 plus the refusal number
+--   verdictsBuffer cs n ds buf     its buffer afterwards: the rejecting step of each offer in its first bytes
 --   fileOffers bytes         how many offers the trial of a file has
 --   trialVerdictsChecks bytes places, trialVerdictsRefusal     of a file and a buffer of so many bytes: what the file is turned away for, then 12
---   trialVerdictsAnswer bytes places      what the call returns
---   trialVerdictsBuffer bytes buf         the buffer afterwards: the rejecting step of each offer in its first bytes
+--   trialVerdictsAnswer bytes places, trialVerdictsBuffer bytes buf     what the call returns, and its buffer afterwards
 --   tableVerdictsChecks t .. work places, tableVerdictsRefusal     of a table, a work buffer of so many values and a buffer of so many bytes: 4, 3, 9, 10, 11, then 12 for either
---   tableVerdictsAnswer t .. work places  what the call returns
+--   tableVerdictsAnswer t .. work places, tableVerdictsBuffer t .. work buf     what the call returns, and its buffer afterwards, a byte for each column
 --   tableVerdictsWork t .. work places    the work buffer afterwards: plus zero in its first places, one for each row
---   tableVerdictsBuffer t .. work buf     the buffer afterwards: the rejecting step of each column in its first bytes
 use Prim.Native.Nat.{ℕ, _+_}
 use mathlib.Core.List.{List, _++_, map}
 use lib.ListN.{length, take}
@@ -27,6 +26,12 @@ use Rattle.trialrun.specs.FileRuns.{fileRun}
 abbrev pub stepBytes : ℕ → List Decision → List ℕ
 stepBytes n ds = map (λ d. rejectingStep (d .verdict)) (take n ds)
 
+abbrev pub verdictsAnswer : Checks → ℕ → List Decision → ℕ
+verdictsAnswer cs n ds = answer cs (rejectedCount n ds) (λ m. 100 + m)
+
+abbrev pub verdictsBuffer : Checks → ℕ → List Decision → List ℕ → List ℕ
+verdictsBuffer cs n ds buf = afterwards cs (written (stepBytes n ds) buf) buf
+
 -- ---- a file
 
 abbrev pub fileOffers : List ℕ → ℕ
@@ -41,11 +46,11 @@ trialVerdictsRefusal bytes places = firstRefusal (trialVerdictsChecks bytes plac
 
 unfoldable pub trialVerdictsAnswer : List ℕ → ℕ → ℕ
 unfolding answer fileChecks rejectedCount fileRun
-trialVerdictsAnswer bytes places = answer (trialVerdictsChecks bytes places) (rejectedCount (fileOffers bytes) (fileRun bytes .run .decisions)) (λ n. 100 + n)
+trialVerdictsAnswer bytes places = verdictsAnswer (trialVerdictsChecks bytes places) (fileOffers bytes) (fileRun bytes .run .decisions)
 
 unfoldable pub trialVerdictsBuffer : List ℕ → List ℕ → List ℕ
 unfolding answer fileChecks fileRun
-trialVerdictsBuffer bytes buf = afterwards (trialVerdictsChecks bytes (length buf)) (written (stepBytes (fileOffers bytes) (fileRun bytes .run .decisions)) buf) buf
+trialVerdictsBuffer bytes buf = verdictsBuffer (trialVerdictsChecks bytes (length buf)) (fileOffers bytes) (fileRun bytes .run .decisions) buf
 
 -- ---- a table
 
@@ -59,7 +64,7 @@ tableVerdictsRefusal t rows columns k a b observed work places = firstRefusal (t
 unfoldable pub tableVerdictsAnswer : List Float → ℕ → ℕ → ℕ → ℕ → ℕ → ℕ → ℕ → ℕ → ℕ
 unfolding answer tableChecks rejectedCount acceptedRun tableRun
 tableVerdictsAnswer t rows columns k a b observed work places =
-    answer (tableVerdictsChecks t rows columns k a b observed work places) (rejectedCount columns (acceptedRun (tableRun t rows columns k a b observed) .decisions)) (λ n. 100 + n)
+    verdictsAnswer (tableVerdictsChecks t rows columns k a b observed work places) columns (acceptedRun (tableRun t rows columns k a b observed) .decisions)
 
 unfoldable pub tableVerdictsWork : List Float → ℕ → ℕ → ℕ → ℕ → ℕ → ℕ → List Float → ℕ → List Float
 unfolding answer tableChecks
@@ -68,4 +73,4 @@ tableVerdictsWork t rows columns k a b observed work places = afterwards (tableV
 unfoldable pub tableVerdictsBuffer : List Float → ℕ → ℕ → ℕ → ℕ → ℕ → ℕ → ℕ → List ℕ → List ℕ
 unfolding answer tableChecks acceptedRun tableRun
 tableVerdictsBuffer t rows columns k a b observed work buf =
-    afterwards (tableVerdictsChecks t rows columns k a b observed work (length buf)) (written (stepBytes columns (acceptedRun (tableRun t rows columns k a b observed) .decisions)) buf) buf
+    verdictsBuffer (tableVerdictsChecks t rows columns k a b observed work (length buf)) columns (acceptedRun (tableRun t rows columns k a b observed) .decisions) buf

@@ -1,17 +1,16 @@
 -- Definitions that only the private function `tell` cites. Definitions only; a reader of the promises needs none of them.
 --   Tellable f           of a file's run f, whichever run it is: its refusal has two digits at most, and where it has none the offers are at most 32 and the steps small
 --   Told f buf r out     r, and `out` that held buf, are what a call over f gives: refused by any conditions cs that refuse as f does, then by 12, and else the number of rejected and the steps of its n offers
-use Prim.Native.Nat.{ℕ, _+_, _≤_}
+use Prim.Native.Nat.{ℕ, _≤_}
 use mathlib.Core.Path.{_≡_}
 use mathlib.Core.List.{List, _++_}
 use lib.ListN.{length}
 use lib.Dec.{T}
-use Rattle.refusals.specs.Answers.{Checks, answer, firstRefusal, afterwards}
-use Rattle.refusals.specs.Buffers.{tooShort, written}
-use Rattle.verdicts.specs.Verdicts.{rejectedCount}
+use Rattle.refusals.specs.Answers.{Checks, firstRefusal}
+use Rattle.refusals.specs.Buffers.{tooShort}
 use Rattle.verdicts.specs.Internal.{smallSteps}
 use Rattle.trialrun.specs.declared.FileRun.{FileRun}
-use Rattle.host.specs.Calls.{stepBytes}
+use Rattle.host.specs.Calls.{verdictsAnswer, verdictsBuffer}
 
 pub record Tellable (f : FileRun) : Type 0 where
   pub short : f .run .refusal ≤ 99
@@ -21,5 +20,5 @@ pub record Tellable (f : FileRun) : Type 0 where
 abbrev pub Told : FileRun → List ℕ → ℕ → List ℕ → Type 0
 Told f buf r out =
     (cs : Checks) (n : ℕ) → f .run .refusal ≡ firstRefusal cs → (f .run .refusal ≡ 0 → f .trial .shape .offers ≡ n)
-    → (r ≡ answer (cs ++ tooShort (length buf) n) (rejectedCount n (f .run .decisions)) (λ m. 100 + m))
-    × (out ≡ afterwards (cs ++ tooShort (length buf) n) (written (stepBytes n (f .run .decisions)) buf) buf)
+    → (r ≡ verdictsAnswer (cs ++ tooShort (length buf) n) n (f .run .decisions))
+    × (out ≡ verdictsBuffer (cs ++ tooShort (length buf) n) n (f .run .decisions) buf)

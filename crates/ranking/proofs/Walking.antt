@@ -6,7 +6,7 @@
 --   row-.., entry-..      the next row, and the place of its entry
 use Prim.Native.Nat.{ℕ, zero, suc, _+_, _-_, _*_, _/_, _%_, _≤_, _<_}
 use native.Mathlib.Omega.{arith}
-use native.Mathlib.Decide.{decLt, ℕ-discrete}
+use native.Mathlib.Decide.{ℕ-discrete}
 use native.Mathlib.Nat.{div-add-mod', div-lt-iff-lt-mul}
 use mathlib.Core.Path.{_≡_, refl, sym, ap, ap₂, subst, _∙_}
 use mathlib.Core.Bool.{Bool, true, false, cond, _&&_}
@@ -25,6 +25,7 @@ use Rattle.order.proofs.Counts.{countBelow-same, countBelow-list, count-some, c
 use Rattle.order.proofs.Lists.{tabulate-length, tabulate-getD}
 use Rattle.balance.specs.Balance.{whole}
 use Rattle.sorting.specs.Sorting.{keyOf, Sorted}
+use Rattle.sorting.proofs.Moves.{moved-rows, numbered}
 use Rattle.ranking.specs.Internal.{placesIn, rankedBy, Put, Ordered}
 use Rattle.ranking.proofs.Ranked.{inside, inside-small}
 
@@ -122,22 +123,7 @@ module _ (columns j : ℕ) (places order : List ℕ) (t : List Float) (o : Order
 
   -- the row at place i is one of the table
   row-lt : (i : ℕ) → i < length order → getD order i 0 < length places
-  row-lt i h = go (decLt (getD order i 0) (length places))
-    where
-      go : Dec (getD order i 0 < length places) → getD order i 0 < length places
-      go (yes l) = l
-      go (no l) = absurd (omega (arith, beyond, count-some (λ x. leb (length places) x) order i 0 h (true-is (le-leb (length places) (getD order i 0) (omega (arith, l))))))
-        where
-          true-is : {b : Bool} → b ≡ true → T b
-          true-is e = subst (λ (b : Bool). T b) (sym e) tt
-
-          beyond : count (λ x. leb (length places) x) order ≡ 0
-          beyond =
-              let ids = tabulate (length places) (λ r. r) in
-              o .sorted .every .same (λ x. leb (length places) x)
-              ∙ sym (countBelow-list (λ x. leb (length places) x) ids 0)
-              ∙ ap (λ (n : ℕ). countBelow n (λ i. leb (length places) (getD ids i 0))) (tabulate-length (length places) (λ r. r))
-              ∙ count-first (length places) 0 (λ i. leb (length places) (getD ids i 0)) (omega arith) (λ i l. absurd (omega arith)) (λ i a l. ap (leb (length places)) (tabulate-getD (length places) (λ r. r) i 0 l) ∙ lt-leb (length places) i l)
+  row-lt i h = moved-rows (numbered places {n = length places} refl refl (o .most)) (o .sorted .every) (o .even ∙ sym (tabulate-length (length places) (λ r. r))) .within i h
 
   row-inside : (i : ℕ) → i < length order → getD order i 0 * columns + j < length t
   row-inside i h = inside (length t) (length places) columns (getD order i 0) j (o .full) (row-lt i h) (o .within)

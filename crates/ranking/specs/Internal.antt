@@ -30,7 +30,6 @@ rankedBy places v = whole (count (λ p. leb p (place v)) places)
 pub record Put (columns j : ℕ) (places : List ℕ) (t u : List Float) : Type 0 where
   pub told : (p : ℕ) → p < length t → getD u p nan ≡ cond (eqb (p % columns) j) (rankedBy places (getD t p nan)) (getD t p nan)
 
--- the places of column j, and all rows in rising order of them
 pub record Ordered (t : List Float) (columns j : ℕ) (places order : List ℕ) : Type 0 where
   pub full : length t ≡ length places * columns
   pub within : j < columns
