@@ -37,6 +37,7 @@ use Rattle.trial.specs.Record.{figureCount, settingOf, figuresOf}
 use Rattle.trial.specs.Refusals.{headingChecks, offerChecks, figureChecks, nth, contentChecks, trialChecks}
 use Rattle.trial.specs.declared.Shape.{Shape}
 use Rattle.trial.specs.Lent.{tableCallChecks, tableCallRefusal, tableBuffer}
+use Rattle.trial.specs.declared.TableSize.{TableSize}
 use Rattle.trial.specs.declared.Trial.{Trial}
 use Rattle.words.specs.Words.{wordsOf, word}
 use Rattle.layouts.specs.Layouts.{levelAt, shapeAt, layoutOf}
@@ -45,7 +46,7 @@ use Rattle.trialfile.specs.Files.{badLength, levelPlace, shapePlace, offerPlace
 use Rattle.trialwriter.specs.Writings.{fileLength, writeChecks, writeRefusal, writingOf}
 use Rattle.trialwriter.specs.declared.Writing.{Writing}
 use Rattle.trialfile.proofs.Taken.{read-refusal}
-use Rattle.trialrun.specs.TrialRuns.{trialRun, runCallChecks, runCallRefusal, trialAnswer}
+use Rattle.trialrun.specs.TrialRuns.{trialRun, runCallChecks, runCallRefusal, refusedSize, runSize, trialAnswer}
 use Rattle.trialrun.specs.FileRuns.{fileRun}
 use Rattle.trialadjustment.specs.TrialFigures.{trialFigures, trialFiguresAnswer}
 use Rattle.trialbalance.specs.TrialBalance.{trialBalancedRun, trialBalancedAnswer}
@@ -179,6 +180,11 @@ figures-number t rows columns k observed places = answer-map (λ (f : Adjusted).
 pub balanced-number : (t : List Float) (rows columns k a b observed places work : ℕ) → balancedAnswer t rows columns k a b observed places work .refusal ≡ balancedRefusal t rows columns k a b observed places work
 unfolding balancedAnswer balancedRefusal acceptedRun
 balanced-number t rows columns k a b observed places work = answer-map (λ (f : FullRun). f .refusal) (balancedChecks t rows columns k a b observed places work) (acceptedRun (balancedRun t rows columns k a b observed)) refusedRun
+
+-- the table that is made for a run of a trial, and the runs: one number
+pub size-number : (t : Trial) (places work : ℕ) → runSize t places work .refusal ≡ runCallRefusal t places work
+unfolding runSize runCallRefusal
+size-number t places work = answer-map (λ (s : TableSize). s .refusal) (runCallChecks t places work) (record { refusal = 0; rows = rowTotal t; columns = t .shape .offers }) refusedSize
 
 pub trial-number : (t : Trial) (places work : ℕ) → trialAnswer t places work .refusal ≡ runCallRefusal t places work
 unfolding trialAnswer runCallRefusal acceptedRun

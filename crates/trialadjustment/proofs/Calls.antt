@@ -3,8 +3,7 @@
 --   table-figured, table-cleared    what is answered for that table, and the work buffer after it
 --   figures-done, work-done         what the code asks of the table in its buffer is the answer for the trial
 use Prim.Native.Nat.{ℕ, _*_, _≤_}
-use native.Mathlib.Omega.{arith}
-use mathlib.Core.Path.{_≡_, refl, sym, _∙_}
+use mathlib.Core.Path.{_≡_, refl, sym}
 use mathlib.Core.List.{List}
 use lib.ListN.{length, take}
 use lib.Ieee.{Float}
@@ -17,12 +16,12 @@ use Rattle.adjustment.specs.Answers.{adjustmentChecks, adjustmentCallChecks, ad
 use Rattle.adjustment.specs.declared.Adjusted.{Adjusted}
 use Rattle.trial.specs.Exchange.{rowTotal, tableOf}
 use Rattle.trial.specs.Refusals.{trialRefusal}
-use Rattle.trial.specs.Lent.{sizeOf, tableBuffer}
 use Rattle.trial.specs.declared.Trial.{Trial}
 use Rattle.trial.specs.declared.TableSize.{TableSize}
-use Rattle.trial.proofs.Calls.{known, sized}
-use Rattle.trialrun.specs.TrialRuns.{runWork}
-use Rattle.trialrun.proofs.Runs.{table-accepted, call-done}
+use Rattle.trial.proofs.Calls.{known}
+use Rattle.trialrun.specs.TrialRuns.{runSize, runTable, runWork}
+use Rattle.trialrun.proofs.Tabled.{ok, work-room, call-done}
+use Rattle.trialrun.proofs.Runs.{table-accepted}
 use Rattle.trialadjustment.specs.TrialFigures.{trialFigures, trialFiguresAnswer}
 
 module _ (t : Trial) (ok : trialRefusal t ≡ 0) where
@@ -48,17 +47,17 @@ module _ (t : Trial) (ok : trialRefusal t ≡ 0) where
   unfolding figuresWork adjustmentCallRefusal
   table-cleared work h = sym (accepted (cleared (rowTotal t) work) (λ _. work) (checks (length work)) 0 (sym (call-passes (length work) h)) refl)
 
-module _ (t : Trial) (s : TableSize) (q : s ≡ sizeOf t) (z : s .refusal ≡ 0) (table : List Float) (h : s .rows * s .columns ≤ length table) (w : List Float) (e : w ≡ tableBuffer t table) (work : List Float) (l : s .rows ≤ length work) where
-  ok : trialRefusal t ≡ 0
-  ok = sym (sized t s q .refusal-is) ∙ z
+module _ (t : Trial) (table work : List Float) (s : TableSize) (q : s ≡ runSize t (length table) (length work)) (w : List Float) (e : w ≡ runTable t table (length work)) (z : s .refusal ≡ 0) where
+  abbrev passed : trialRefusal t ≡ 0
+  passed = ok t table work s q w e z
 
-  room : rowTotal t ≤ length work
-  room = omega (arith, sized t s q .rows-are z)
+  abbrev room : rowTotal t ≤ length work
+  room = work-room t table work s q w e z
 
   pub figures-done : (r : Adjusted) → r ≡ figuresAnswer (take (s .rows * s .columns) w) (s .rows) (s .columns) (t .shape .k) 0 (length work) → r ≡ trialFiguresAnswer t (length table) (length work)
   unfolding trialFiguresAnswer
-  figures-done = call-done t s q z table h w e work l (λ x m n. figuresAnswer x m n (t .shape .k) 0 (length work)) (acceptedFigures (rowTotal t) (trialFigures t)) refusedFigures (table-figured t ok (length work) room)
+  figures-done = call-done t table work s q w e z (λ x m n. figuresAnswer x m n (t .shape .k) 0 (length work)) (acceptedFigures (rowTotal t) (trialFigures t)) refusedFigures (table-figured t passed (length work) room)
 
   pub work-done : (v : List Float) → v ≡ figuresWork (take (s .rows * s .columns) w) (s .rows) (s .columns) (t .shape .k) 0 work → v ≡ runWork t (length table) work
   unfolding runWork
-  work-done = call-done t s q z table h w e work l (λ x m n. figuresWork x m n (t .shape .k) 0 work) (cleared (rowTotal t) work) (λ _. work) (table-cleared t ok work room)
+  work-done = call-done t table work s q w e z (λ x m n. figuresWork x m n (t .shape .k) 0 work) (cleared (rowTotal t) work) (λ _. work) (table-cleared t passed work room)

@@ -15,18 +15,11 @@ pub fn trial_figures(t: Trial, table: &mut [f64], work: &mut [f64]) -> Adjusted
     ensures { λ r. ⌜ now (table .exit) ≡ runTable t (now (table .entry)) (length (now (work .entry))) ⌝ }
     ensures { λ r. ⌜ now (work .exit) ≡ runWork t (length (now (table .entry))) (now (work .entry)) ⌝ }
 {
-    let s = trial::size(t);
+    let s = trialrun::table_for_run(t, table, work.len());
     if s.refusal != 0 {
         return adjustment::refused(s.refusal);
     }
     let total = s.rows * s.columns;
-    if table.len() < total {
-        return adjustment::refused(12);
-    }
-    if work.len() < s.rows {
-        return adjustment::refused(12);
-    }
-    trialtable::table(t, table);
     tableadjustment::adjusted_figures(&table[..total], work, s.rows, s.columns, t.shape.k, 0)
 }
 

@@ -16,18 +16,11 @@ pub fn balanced_run(t: Trial, table: &mut [f64], work: &mut [f64]) -> FullRun
     ensures { λ r. ⌜ now (table .exit) ≡ runBalanced t (now (table .entry)) (length (now (work .entry))) ⌝ }
     ensures { λ r. ⌜ now (work .exit) ≡ runWork t (length (now (table .entry))) (now (work .entry)) ⌝ }
 {
-    let s = trial::size(t);
+    let s = trialrun::table_for_run(t, table, work.len());
     if s.refusal != 0 {
         return runs::refused(s.refusal);
     }
     let total = s.rows * s.columns;
-    if table.len() < total {
-        return runs::refused(12);
-    }
-    if work.len() < s.rows {
-        return runs::refused(12);
-    }
-    trialtable::table(t, table);
     let mut places = [0u64; TRIAL_ROWS_MOST];
     let mut order = [0u16; TRIAL_ROWS_MOST];
     let mut spare = [0u16; TRIAL_ROWS_MOST];

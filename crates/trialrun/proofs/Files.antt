@@ -23,7 +23,7 @@ use Rattle.trialfile.proofs.Taken.{read-accepted, read-refusal}
 use Rattle.trialrun.specs.TrialRuns.{trialRun, runCallChecks, trialAnswer}
 use Rattle.trialrun.specs.FileRuns.{fileRun}
 use Rattle.trialrun.specs.declared.FileRun.{FileRun}
-use Rattle.trialrun.proofs.Runs.{run-free}
+use Rattle.trialrun.proofs.Tabled.{run-free}
 
 pub buffers-hold : {A : Type 0} (done : A) (refusing : ℕ → A) (t : Trial) → trialRefusal t ≡ 0 → answer (runCallChecks t trialTableMost trialRowsMost) done refusing ≡ done
 unfolding rowTotal

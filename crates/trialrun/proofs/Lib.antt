@@ -1,3 +1,4 @@
+pub mod Tabled
 pub mod Runs
 pub mod Files
 pub mod Unused

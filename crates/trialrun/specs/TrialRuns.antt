@@ -1,8 +1,10 @@
 -- The full run of a trial with lent buffers. Definitions only.
 --   trialRun t          the full run of a trial: of its table, with row 0 observed
 --   runCallChecks, runCallRefusal    of a full run, with a table buffer and a work buffer of so many places: the record's refusals, then 12 for either
---   trialAnswer t places work        what the full run answers
+--   refusedSize n                    what is told in place of a size: the number of a refusal, with 0 and 0
+--   runSize t places work            the size of the table that is made for it
 --   runTable, runWork                the table buffer and the work buffer after it; both unchanged where it is refused
+--   trialAnswer t places work        what the full run answers
 use Prim.Native.Nat.{ℕ, _*_}
 use mathlib.Core.List.{List, _++_}
 use lib.ListN.{length}
@@ -15,6 +17,7 @@ use Rattle.runs.specs.Tables.{tableRun}
 use Rattle.runs.specs.declared.FullRun.{FullRun}
 use Rattle.trial.specs.Exchange.{rowTotal, tableOf}
 use Rattle.trial.specs.Refusals.{trialChecks}
+use Rattle.trial.specs.declared.TableSize.{TableSize}
 use Rattle.trial.specs.declared.Trial.{Trial}
 
 unfoldable pub trialRun : Trial → Outcome
@@ -28,9 +31,12 @@ unfoldable pub runCallRefusal : Trial → ℕ → ℕ → ℕ
 unfolding firstRefusal
 runCallRefusal t places work = firstRefusal (runCallChecks t places work)
 
-unfoldable pub trialAnswer : Trial → ℕ → ℕ → FullRun
-unfolding trialRun
-trialAnswer t places work = answer (runCallChecks t places work) (acceptedRun (trialRun t)) refusedRun
+abbrev pub refusedSize : ℕ → TableSize
+refusedSize n = record { refusal = n; rows = 0; columns = 0 }
+
+unfoldable pub runSize : Trial → ℕ → ℕ → TableSize
+unfolding answer trialChecks rowTotal
+runSize t places work = answer (runCallChecks t places work) (record { refusal = 0; rows = rowTotal t; columns = t .shape .offers }) refusedSize
 
 unfoldable pub runTable : Trial → List Float → ℕ → List Float
 unfolding tableOf
@@ -38,3 +44,7 @@ runTable t table work = afterwards (runCallChecks t (length table) work) (writte
 
 unfoldable pub runWork : Trial → ℕ → List Float → List Float
 runWork t places work = afterwards (runCallChecks t places (length work)) (cleared (rowTotal t) work) work
+
+unfoldable pub trialAnswer : Trial → ℕ → ℕ → FullRun
+unfolding trialRun
+trialAnswer t places work = answer (runCallChecks t places work) (acceptedRun (trialRun t)) refusedRun

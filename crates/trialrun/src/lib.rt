@@ -2,11 +2,43 @@
 use limits::TRIAL_ROWS_MOST;
 use limits::TRIAL_TABLE_MOST;
 use runs::FullRun;
+use trial::TableSize;
 use trial::Trial;
 ghost use mathlib.Core.Path.{_≡_};
 ghost use lib.ListN.{length};
-ghost use Rattle.trialrun.specs.TrialRuns.{trialAnswer, runTable, runWork};
+ghost use Rattle.trialrun.specs.TrialRuns.{refusedSize, runSize, runTable, runWork, trialAnswer};
 ghost use Rattle.trialrun.specs.FileRuns.{fileRun};
+
+// What is told in place of a size.
+fn refused_size(refusal: u32) -> TableSize
+    ensures { λ r. ⌜ r ≡ refusedSize refusal ⌝ }
+{
+    TableSize {
+        refusal,
+        rows: 0,
+        columns: 0,
+    }
+}
+
+// The table of a trial into the first places of a lent buffer, for a run with a work buffer of so many places. Answers its size, or the number of the
+// refusal, that of the record or 12 for either buffer, and then the buffer is unchanged.
+pub fn table_for_run(t: Trial, table: &mut [f64], work: usize) -> TableSize
+    ensures { λ r. ⌜ r ≡ runSize t (length (now (table .entry))) work ⌝ }
+    ensures { λ r. ⌜ now (table .exit) ≡ runTable t (now (table .entry)) work ⌝ }
+{
+    let s = trial::size(t);
+    if s.refusal != 0 {
+        return s;
+    }
+    if table.len() < s.rows * s.columns {
+        return refused_size(12);
+    }
+    if work < s.rows {
+        return refused_size(12);
+    }
+    trialtable::table(t, table);
+    s
+}
 
 // The full run of a trial: of its table, with row 0 observed. The table buffer then holds the table, and the work buffer plus zero.
 pub fn full_run(t: Trial, table: &mut [f64], work: &mut [f64]) -> FullRun
@@ -14,18 +46,11 @@ pub fn full_run(t: Trial, table: &mut [f64], work: &mut [f64]) -> FullRun
     ensures { λ r. ⌜ now (table .exit) ≡ runTable t (now (table .entry)) (length (now (work .entry))) ⌝ }
     ensures { λ r. ⌜ now (work .exit) ≡ runWork t (length (now (table .entry))) (now (work .entry)) ⌝ }
 {
-    let s = trial::size(t);
+    let s = table_for_run(t, table, work.len());
     if s.refusal != 0 {
         return runs::refused(s.refusal);
     }
     let total = s.rows * s.columns;
-    if table.len() < total {
-        return runs::refused(12);
-    }
-    if work.len() < s.rows {
-        return runs::refused(12);
-    }
-    trialtable::table(t, table);
     stepdown::full_run(
         &table[..total],
         work,

@@ -1,5 +1,5 @@
--- `trial_figures` meets its contract: its checks, the table, and the figures of the table with row 0 observed.
-use Rattle.trialrun.proofs.Runs.{call-turned, call-short, call-cramped, total-fits, table-filled}
+-- `trial_figures`: the table is made, and its figures are worked out with row 0 observed.
+use Rattle.trialrun.proofs.Tabled.{call-turned, small, room}
 use Rattle.trialadjustment.proofs.Calls.{figures-done, work-done}
 use Rattle.adjustment.specs.Answers.{acceptedFigures, refusedFigures}
 use Rattle.trial.specs.Exchange.{rowTotal, tableOf}
@@ -14,34 +14,38 @@ use Rattle.trialadjustment.proofs.trial_figures.Tie as tie
 
 returns : tie.Need-returns
 unfolding trialFiguresAnswer runTable
-returns c = let s = c .before .before .before in let a = s .before .before .before .args in call-turned (a .t) _ (s .size .ensures) (acceptedFigures (rowTotal (a .t)) (trialFigures (a .t))) refusedFigures (tableOf (a .t)) (a .table .now) (a .work .now) _ (c .before .if1 .taken) (c .refused .ensures)
+returns c =
+    let d = c .before .before .before .before .before in
+    let a = d .before .before .before .before .args in
+    let p = d .table-for-run .ensures in
+    call-turned (a .t) (a .table .now) (a .work .now) _ (p .0) _ (p .1) (acceptedFigures (rowTotal (a .t)) (trialFigures (a .t))) refusedFigures (tableOf (a .t)) _ (c .before .if1 .taken) (c .refused .ensures)
 
 mul-total : tie.Need-mul-total
-mul-total c = let s = c .before .before .before in let f = total-fits _ _ (s .size .ensures) (c .before .if1 .left) in record { fits = omega (arith, f) }
+mul-total c =
+    let d = c .before .before .before .before .before in
+    let a = d .before .before .before .before .args in
+    let p = d .table-for-run .ensures in
+    let f = small (a .t) (a .table .now) (a .work .now) _ (p .0) _ (p .1) (c .before .if1 .left) in
+    record { fits = omega (arith, f) }
 
-returns-2 : tie.Need-returns-2
-unfolding trialFiguresAnswer runTable
-returns-2 c = let s = c .before .before .before .before .before in let a = s .before .before .before .args in call-short (a .t) _ (s .size .ensures) (acceptedFigures (rowTotal (a .t)) (trialFigures (a .t))) refusedFigures (tableOf (a .t)) (a .table .now) (a .work .now) _ (c .before .before .before .if1 .left) (omega (arith, c .before .if2 .taken)) (c .refused2 .ensures)
-
-returns-3 : tie.Need-returns-3
-unfolding trialFiguresAnswer runTable
-returns-3 c = let s = c .before .before .before .before .before .before .before in let a = s .before .before .before .args in call-cramped (a .t) _ (s .size .ensures) (acceptedFigures (rowTotal (a .t)) (trialFigures (a .t))) refusedFigures (tableOf (a .t)) (a .table .now) (a .work .now) _ (c .before .before .before .before .before .if1 .left) (c .before .before .before .if2 .left) (c .before .if3 .taken) (c .refused3 .ensures)
+slice-reshare-prefix-adjusted-figures : tie.Need-slice-reshare-prefix-adjusted-figures
+slice-reshare-prefix-adjusted-figures c =
+    let d = c .before .before .before .before .before in
+    let a = d .before .before .before .before .args in
+    let p = d .table-for-run .ensures in
+    room (a .t) (a .table .now) (a .work .now) _ (p .0) _ (p .1) (c .before .if1 .left)
 
 slice-aggregate-adjusted-figures : tie.Need-slice-aggregate-adjusted-figures
-slice-aggregate-adjusted-figures c = sym (length-take-le _ _ (omega (arith, c .before .before .before .table .kept .1 .0, c .before .before .before .before .before .before .before .if2 .left)))
+slice-aggregate-adjusted-figures c = sym (length-take-le _ _ (slice-reshare-prefix-adjusted-figures (c .before)))
 
-returns-4 : tie.Need-returns-4
-returns-4 c =
-    let f = c .before .before in
-    let w = c .before .before .before .before .before .before .before in
-    let s = w .before .before .before .before .before .before .before .before in
-    let a = s .before .before .before .args in
-    let z = w .before .before .before .before .before .before .if1 .left in
-    let h = w .before .before .before .before .if2 .left in
-    let l = w .before .before .if3 .left in
-    let e = s .size .ensures in
-    let q = w .table .ensures .1 in
-    (figures-done (a .t) _ e z (a .table .now) h _ q (a .work .now) l _ (f .adjusted-figures .ensures .0), (table-filled (a .t) _ e z (a .table .now) h _ q _ l, work-done (a .t) _ e z (a .table .now) h _ q (a .work .now) l _ (f .adjusted-figures .ensures .1)))
+returns-2 : tie.Need-returns-2
+returns-2 c =
+    let z = c .before .before .before .before .before .before in
+    let d = z .before .before .before .before in
+    let a = d .before .before .before .before .args in
+    let p = d .table-for-run .ensures in
+    let f = c .before .before .adjusted-figures .ensures in
+    (figures-done (a .t) (a .table .now) (a .work .now) _ (p .0) _ (p .1) (z .if1 .left) _ (f .0), (p .1, work-done (a .t) (a .table .now) (a .work .now) _ (p .0) _ (p .1) (z .if1 .left) _ (f .1)))
 
 pub trial-figures-spec : {M : Type 1} → statement M
 trial-figures-spec =
@@ -49,16 +53,12 @@ trial-figures-spec =
     (tie.spec
     (λ c κs. search needs)
     (λ c κs. search needs)
+    (λ c. search needs)
     returns
     mul-total
-    (λ c κs. search needs)
-    returns-2
-    (λ c κs. search needs)
-    returns-3
-    (λ c κs. search needs)
-    (λ c. search needs)
+    slice-reshare-prefix-adjusted-figures
     slice-aggregate-adjusted-figures
     (λ c κs. search needs)
     (λ c. search needs)
     (λ c. search needs)
-    returns-4)
+    returns-2)
