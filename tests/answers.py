@@ -11,9 +11,10 @@ from expected import expected
 from frames import value_number
 from generators.kinds import (BalancedRunCase, FileCase, LookCase, RecordCase, StepCase, TableCase,
                               WalkCase)
+from reference.ccall import verdict_byte
 from reference.method import Record
 from reference.refusals import Refused
-from reference.table import Kept, Rejected
+from reference.table import Aside, Kept
 from reference.trial import Trial
 from reference.view import OUTSIDE
 
@@ -156,9 +157,9 @@ def record_numbers(record) -> tuple:
 
 
 def verdict_numbers(verdict) -> tuple:
-    """The rejecting step or 0, twice, since the program asks in two ways; the critical value."""
-    step = verdict.step if isinstance(verdict, Rejected) else 0
-    return step, step, value_number(verdict.critical_value)
+    """The verdict's byte, twice, since the program asks in two ways; the critical value, zero for one set aside."""
+    byte = verdict_byte(verdict)
+    return byte, byte, value_number(0.0 if isinstance(verdict, Aside) else verdict.critical_value)
 
 
 def values_numbers(values) -> list:

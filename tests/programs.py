@@ -26,7 +26,7 @@ ROOT = pathlib.Path(__file__).resolve().parent.parent
 LONGEST = 652
 SECONDS = 20  # a program that has not ended by then is taken for one that never will
 WAIT = 0.3  # long enough for a program that does not wait to have ended
-W = (ROOT / "samples" / "w.trial").read_bytes()
+W, ASIDE = ((ROOT / "samples" / f"{name}.trial").read_bytes() for name in ("w", "aside"))
 
 
 def prove(name: str):

@@ -18,6 +18,9 @@ class Samples(Adjusted, programs.Samples, unittest.TestCase):
     def test_w(self):
         self.assertEqual(self.printed(programs.W), "0042 1\n7 3\nend 8\n")
 
+    def test_aside(self):
+        self.assertEqual(self.printed(programs.ASIDE), "0042 1\n7 3\n04711 8\nend 8\n")
+
 
 class Inputs(Adjusted, programs.Inputs, unittest.TestCase):
     share = 7  # more than of the report, whose text is compared elsewhere too

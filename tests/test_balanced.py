@@ -21,6 +21,11 @@ class Samples(Balanced, programs.Samples, unittest.TestCase):
         self.assertEqual(self.printed(programs.W), "trial 3 2 1 2 8\nstep 1 7\nstep 2 7\n"
                                                    "0042 rejected 1 1\n7 kept 2 3\nend 1\n")
 
+    def test_aside(self):
+        self.assertEqual(self.printed(programs.ASIDE),
+                         "trial 3 3 1 2 8\nstep 1 7\nstep 2 7\n0042 rejected 1 1\n7 kept 2 3\n"
+                         "04711 aside 0 0\nend 1\n")
+
     def test_milk_and_saffron(self):
         data = (programs.ROOT / "samples" / "saffron.trial").read_bytes()
         self.assertEqual(self.printed(data), "trial 3 2 1 2 8\nstep 1 7\nstep 2 6\n"

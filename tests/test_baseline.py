@@ -90,7 +90,7 @@ def expected_figures(answer):
     """The same of the reference."""
     counts = answer.counts + (0,) * (32 - len(answer.counts))
     return ([record.critical_value.hex() for record in answer.records],
-            ccall.steps(answer).ljust(32, b"\0"), counts, answer.rejected())
+            ccall.verdict_bytes(answer).ljust(32, b"\0"), counts, answer.rejected())
 
 
 def marked(kind, room: int):

@@ -117,7 +117,7 @@ class Calls(unittest.TestCase):
                 (work, lambda _: expected_work), (steps, lambda run: [len(run.records)]),
                 (criticals, lambda run: padded([r.critical_value for r in run.records])),
                 (counts, lambda run: padded(run.counts)),
-                (verdicts, lambda run: padded(ccall.steps(run)))))
+                (verdicts, lambda run: padded(ccall.verdict_bytes(run)))))
             self.assertNotIn("-0.0", map(str, (*criticals, *work)), case.name)
             refused.add(found)
         self.assertEqual(refused, {0, 3, 4, 9, 10, 11, 12})

@@ -19,7 +19,7 @@ from generators.kinds import TableCase
 from reference import balanced, ccall
 from reference.adjusted import figures_refusal
 from reference.refusals import Refused
-from reference.table import Rejected, table_refusal
+from reference.table import Aside, Rejected, table_refusal
 from reference.trial import full_run
 from reference.trialfile import read
 
@@ -332,13 +332,19 @@ class Driver(unittest.TestCase):
                 self.compare(calls, stack)
 
 
+def told(verdict) -> str:
+    """A verdict in the sample host's words."""
+    if isinstance(verdict, Aside):
+        return "set aside"
+    return f"rejected in step {verdict.step}" if isinstance(verdict, Rejected) else "kept"
+
+
 def sample_lines(data: bytes) -> str:
     """What the sample host prints for an accepted file."""
     trial = read(data)
     verdicts = full_run(trial).verdicts
     codes = [str(code).zfill(digits) for code, digits in zip(trial.codes, trial.digits)]
-    lines = [f"{code} rejected in step {verdict.step}" if isinstance(verdict, Rejected)
-             else f"{code} kept" for code, verdict in zip(codes, verdicts)]
+    lines = [f"{code} {told(verdict)}" for code, verdict in zip(codes, verdicts)]
     return "".join(f"{line}\n" for line in (*lines, f"rejected: {ccall.on_file(data, None)}"))
 
 
@@ -357,6 +363,10 @@ class SampleHost(unittest.TestCase):
         w = ROOT / "samples" / "w.trial"
         self.assertEqual(self.call(w), answer)
         self.assertEqual(self.call(data=w.read_bytes()), answer)
+
+    def test_aside(self):
+        self.assertEqual(self.call(ROOT / "samples" / "aside.trial"),
+                         (0, "0042 rejected in step 1\n7 kept\n04711 set aside\nrejected: 1\n", ""))
 
     def test_samples(self):
         for path in sorted((ROOT / "samples").glob("*.trial")):

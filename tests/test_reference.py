@@ -664,12 +664,12 @@ class Properties(unittest.TestCase):
         for call, text_of in ((ccall.on_file, report.report),
                               (ccall.balanced_on_file, balanced.report)) * 150:
             one = random_trial(rng, 6, 8, 5)
-            data, buffer = trialfile.write(one), bytearray(b"\xff" * 20)
+            data, buffer = trialfile.write(one), bytearray(b"\7" * 20)
             answer = call(data, buffer)
             text = text_of(data)
             self.assertTrue(text.endswith(f"\nend {answer}\n"))
-            self.assertEqual(answer, sum(1 for step in buffer[:one.offers] if step))
-            self.assertEqual(buffer[one.offers:], b"\xff" * (20 - one.offers))
+            self.assertEqual(answer, sum(1 for step in buffer[:one.offers] if step not in (0, 255)))
+            self.assertEqual(buffer[one.offers:], b"\7" * (20 - one.offers))
             self.assertNotIn("-0", [line.split()[-1] for line in text.splitlines()])
 
 

@@ -47,7 +47,7 @@ def number_of(data: bytes) -> int:
 class Samples(unittest.TestCase):
     def test_samples_are_made_from_their_texts(self):
         texts = sorted((ROOT / "samples").glob("*.txt"))
-        self.assertGreaterEqual(len(texts), 3)
+        self.assertGreaterEqual(len(texts), 6)
         for text in texts:
             data = text.with_suffix(".trial").read_bytes()
             self.assertEqual(trialtext.make(text.read_bytes()), data)

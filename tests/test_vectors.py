@@ -14,10 +14,13 @@ from generators import files, order, records
 from generators.kinds import (BalancedRunCase, FileCase, LookCase, RecordCase, StepCase, TableCase,
                               WalkCase)
 from make_vectors import CRATE, files as made_files
+from reference import balanced, table
 from reference.refusals import Refused, breaks_3, table_breaks_4
 from reference.report import report
 from reference.run import CLAUSES_OF_14, clauses_broken
-from reference.trial import full_run, trial_refusal
+from reference.table import Rejected
+from reference.trial import (differences_of, full_run, remaining, rows_of, table_of,
+                             trial_refusal)
 from reference.trialfile import bytes_of, read, words_of, write
 from reference.view import OUTSIDE
 
@@ -39,6 +42,11 @@ def of_lent(held, case) -> list:
         (9, len(case.values) != held.rows * held.columns),
         (11, not all(map(math.isfinite, case.values))), (12, case.work_room < held.rows))
         if broken]
+
+
+def rejections(run) -> list:
+    """By offer, whether it is rejected."""
+    return [isinstance(verdict, Rejected) for verdict in run.verdicts]
 
 
 class Stored(unittest.TestCase):
@@ -168,6 +176,38 @@ class Covered(unittest.TestCase):
             self.assertTrue(all(spare[n] >= 10 for n in (-1, 0, 1)), spare)
             self.assertTrue(any(case.report_room == 0 for case in cases))
 
+    def trials_aside(self) -> list:
+        """The accepted trials with offers set aside: those of files, and those of records."""
+        read_ones = (read(case.data) for case in self.of(FileCase))
+        given = (case.trial for case in self.of(RecordCase) if not trial_refusal(case.trial))
+        return [[trial for trial in trials if not isinstance(trial, Refused)
+                 and len(remaining(trial)) < trial.offers] for trials in (read_ones, given)]
+
+    def test_aside(self):
+        """No offer, fewer than k, just k and more remain, some with a sum of 0; the ends of the shapes."""
+        for trials in self.trials_aside():
+            left = [(len(remaining(trial)), trial.k) for trial in trials]
+            states = Counter((n > 0) + (n >= k) + (n > k) for n, k in left)
+            self.assertTrue(all(states[state] >= 5 for state in range(4)), states)
+            self.assertIn(1, {trial.pairs for trial in trials})
+            self.assertIn(16, {trial.offers for trial in trials})
+            sums = [sum(differences_of(trial, i)) for trial in trials for i in remaining(trial)]
+            self.assertGreaterEqual(sums.count(0), 5)
+
+    def test_runs_aside(self):
+        """Other offers are rejected where zeros are a column as any, plain or balanced; and these two differ."""
+        for trials in self.trials_aside():
+            differ = Counter()
+            for trial in trials:
+                figures = (rows_of(trial), trial.offers, trial.k, trial.a, trial.b, 0)
+                plain, weighed, plain_table, weighed_table = map(rejections, (
+                    full_run(trial), balanced.trial_run(trial),
+                    table.full_run(table_of(trial), *figures),
+                    balanced.full_run(table_of(trial), *figures)))
+                differ.update(plain=plain != plain_table, balanced=weighed != weighed_table,
+                              apart=plain != weighed)
+            self.assertGreaterEqual(min(differ.values()), 5, differ)
+
     def test_styles(self):
         for style in ("ties", "equal_offers", "zeros", "opposite_offers", "ladder"):
             self.assertTrue(any(f"file-valid-{style}" in name for name in self.cases), style)
@@ -232,6 +272,9 @@ class Covered(unittest.TestCase):
         rejecting = [row for row in range(8)
                      if expected(self.cases[f"example-w-row-{row}"])["full_run"][0].rejected()]
         self.assertEqual(rejecting, [0, 2])
+        self.assertEqual(expected(self.cases["example-aside-w"])["report"][0], b"trial 3 3 1 2 8\nstep 1 4\n"
+                         b"step 2 2\n0042 rejected 1 1\n7 kept 2 3\n04711 aside 0 0\nend 1\n")
+        self.assertIn("example-aside-BalancedRunCase", self.cases)
         for name in ("p", "one", "zeros"):
             for kind in ("TableCase", "WalkCase"):
                 self.assertIn(f"example-{name}-{kind}", self.cases)

@@ -6,7 +6,7 @@
  *   masks.c      the same, with the rows as masks of columns (steps.h, masks.h: what it shares with others)
  *   adjusted.c   adjusted figures of tables (document 02, section 1)
  *   balanced.c   balanced tables (section 3)
- *   trial.c      trial records: checks, table, full run
+ *   trial.c      trial records: checks, table, full run with offers set aside (section 4)
  *   file.c       trial files: reader and writer
  *   report.c     the report's text, and the verdicts as the calls of include/becardlarder.h give them
  *
@@ -30,6 +30,7 @@ enum {
     MOST_DIFFERENCE = 134217727,
     MOST_DIFFERENCES = MOST_OFFERS * MOST_PAIRS,
     MOST_TRIAL_ROWS = 1 << MOST_PAIRS,
+    ASIDE = 255,
     LONGEST_FILE = 652,
     LONGEST_REPORT = 2633
 };
@@ -42,7 +43,10 @@ struct table {
     size_t places;
 };
 
-/* What a full run gives. A column's step is the one that rejected it, or 0 where it is kept. */
+/*
+ * What a full run gives. A column's step is the one that rejected it, or 0 where it is kept. An offer of a trial that
+ * is set aside has ASIDE there, and the count 0.
+ */
 struct full_run {
     size_t steps;
     double critical[MOST_COLUMNS];
@@ -109,7 +113,7 @@ int write_trial(const struct trial *trial, uint8_t *out, size_t places, size_t *
 /* The report of a file as text. */
 int report(const uint8_t *file, size_t length, char *out, size_t places, size_t *written);
 
-/* Of a file or a table: the step of each offer or column, and how many are rejected. */
+/* Of a file or a table: the step of each offer or column as in a full run, and how many are rejected. */
 int verdicts_of_file(const uint8_t *file, size_t length, uint8_t *verdicts, size_t places, size_t *rejected);
 int verdicts_of_table(const struct table *table, uint8_t *verdicts, size_t places, size_t *rejected);
 int verdicts_by_masks(const struct table *table, uint8_t *verdicts, size_t places, size_t *rejected);

@@ -21,8 +21,8 @@ __attribute__((format(printf, 2, 3))) static void add(struct text *text, const c
 
 static void add_offer(struct text *text, const struct trial *t, const struct full_run *run, size_t i)
 {
-    const char *verdict = run->step[i] != 0 ? "rejected" : "kept";
-    size_t step = run->step[i] != 0 ? run->step[i] : run->steps;
+    size_t step = run->step[i] == ASIDE ? 0 : run->step[i] != 0 ? run->step[i] : run->steps;
+    const char *verdict = run->step[i] == ASIDE ? "aside" : run->step[i] != 0 ? "rejected" : "kept";
     add(text, "%0*u %s %zu %zu\n", t->digits[i], t->codes[i], verdict, step, run->count[i]);
 }
 

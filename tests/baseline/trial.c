@@ -1,5 +1,8 @@
-/* Trial records: checks, table, full run. */
-#include "baseline.h"
+/*
+ * Trial records: checks, table, full run. An offer with difference 0 in every pair is set aside: the table that is run
+ * has no column for it.
+ */
+#include "steps.h"
 
 int good_counts(const struct trial *t)
 {
@@ -43,6 +46,28 @@ int check_trial(const struct trial *t)
 
 int table_by_doubling;
 
+/* The offers that remain. */
+struct rest {
+    size_t offers;
+    uint8_t numbers[MOST_OFFERS];
+    const int32_t *differences[MOST_OFFERS];
+};
+
+static struct rest rest_of(const struct trial *t)
+{
+    struct rest rest = {.offers = 0};
+    for (size_t i = 0; i < t->offers; i++) {
+        const int32_t *differences = t->differences + i * t->pairs;
+        int32_t sold = 0;
+        for (size_t j = 0; j < t->pairs; j++)
+            sold |= differences[j];
+        rest.numbers[rest.offers] = (uint8_t)i;
+        rest.differences[rest.offers] = differences;
+        rest.offers += sold != 0;
+    }
+    return rest;
+}
+
 /* The sum of an offer's differences in row g, whose bits say which pairs are exchanged. */
 static double entry(const int32_t *differences, size_t pairs, size_t g)
 {
@@ -52,37 +77,61 @@ static double entry(const int32_t *differences, size_t pairs, size_t g)
     return (double)sum;
 }
 
-static void fill_by_entries(const struct trial *t, double *table)
+static void fill_by_entries(const struct rest *rest, size_t pairs, double *table)
 {
-    for (size_t g = 0; g < (size_t)1 << t->pairs; g++)
-        for (size_t i = 0; i < t->offers; i++)
-            *table++ = entry(t->differences + i * t->pairs, t->pairs, g);
+    for (size_t g = 0; g < (size_t)1 << pairs; g++)
+        for (size_t i = 0; i < rest->offers; i++)
+            *table++ = entry(rest->differences[i], pairs, g);
 }
 
 /* Row 0 has the plain sums; row 2^j + h is row h with twice the difference of pair j taken off. */
-static void fill_by_doubling(const struct trial *t, double *table)
+static void fill_by_doubling(const struct rest *rest, size_t pairs, double *table)
 {
-    size_t offers = t->offers, pairs = t->pairs;
+    size_t offers = rest->offers;
     for (size_t i = 0; i < offers; i++)
-        table[i] = entry(t->differences + i * pairs, pairs, 0);
+        table[i] = entry(rest->differences[i], pairs, 0);
     for (size_t j = 0, rows = 1; j < pairs; j++, rows *= 2) {
         double twice[MOST_OFFERS];
         for (size_t i = 0; i < offers; i++)
-            twice[i] = 2.0 * t->differences[i * pairs + j];
+            twice[i] = 2.0 * rest->differences[i][j];
         for (size_t h = 0; h < rows; h++)
             for (size_t i = 0; i < offers; i++)
                 table[(rows + h) * offers + i] = table[h * offers + i] - twice[i];
     }
 }
 
+/* With fewer than k offers no step is run: each is kept. */
+static void run_without_steps(const struct table *t, struct full_run *run)
+{
+    memset(run, 0, sizeof *run);
+    count_rows(t, run);
+}
+
+/* Moves the answers of the offers that remain to their places, from the last one on, so that none is lost. */
+static void spread(const struct rest *rest, size_t offers, struct full_run *run)
+{
+    size_t left = rest->offers;
+    for (size_t i = offers; i-- > 0;) {
+        int remains = left > 0 && rest->numbers[left - 1] == i;
+        left -= (size_t)remains;
+        run->step[i] = remains ? run->step[left] : ASIDE;
+        run->count[i] = remains ? run->count[left] : 0;
+    }
+}
+
 void run_trial(const struct trial *t, struct full_run *run)
 {
     double values[MOST_TRIAL_ROWS * MOST_OFFERS], work[MOST_TRIAL_ROWS];
+    struct rest rest = rest_of(t);
     if (table_by_doubling)
-        fill_by_doubling(t, values);
+        fill_by_doubling(&rest, t->pairs, values);
     else
-        fill_by_entries(t, values);
+        fill_by_entries(&rest, t->pairs, values);
     size_t rows = (size_t)1 << t->pairs;
-    struct table table = {values, rows * t->offers, rows, t->offers, t->k, t->a, t->b, 0, work, rows};
-    run_table(&table, run);
+    struct table table = {values, rows * rest.offers, rows, rest.offers, t->k, t->a, t->b, 0, work, rows};
+    if (rest.offers < t->k)
+        run_without_steps(&table, run);
+    else
+        run_table(&table, run);
+    spread(&rest, t->offers, run);
 }

@@ -1,4 +1,4 @@
-"""The examples of document 01 by name, those with a star and those without."""
+"""The examples of document 01 by name, those with a star and those without; and trials with offers set aside."""
 
 from dataclasses import replace
 from itertools import product
@@ -7,17 +7,29 @@ from reference.trial import make_trial, table_of
 from reference.trialfile import bytes_of, write
 
 from .files import LONGEST_REPORT, W
-from .kinds import FileCase, RecordCase, TableCase, WalkCase
+from .kinds import BalancedRunCase, FileCase, RecordCase, TableCase, WalkCase
+from .trials import W_OFFERS
 
 W_WORDS = (0x10004004, 0x20010203, 0x3400002A, 0x31000007, 0x40000005, 0x40000003, 0x40000004,
            0x40000002, 0x4FFFFFFF, 0x40000001, 0xF000000A)
 P = tuple(map(float, (9, 8, 3, 4, 1, 2, 0, 4, 5, 1, 0, 1)))
+# Document 02, §4: W with an offer that never sold; none, fewer than k, and just k that sold; differences that cancel;
+# offers that sold in one pair.
+ASIDE = {
+    "w": make_trial((1, 4), 1, [*W_OFFERS, ("04711", (0, 0, 0))]),
+    "all": make_trial((1, 4), 2, [("0042", (0, 0, 0)), ("7", (0, 0, 0)), ("04711", (0, 0, 0))]),
+    "few": make_trial((1, 2), 2, [("0042", (0, 0, 0)), ("7", (2, -1, 1)), ("04711", (0, 0, 0))]),
+    "k-left": make_trial((1, 4), 2, [("04711", (0, 0, 0)), *W_OFFERS]),
+    "cancelling": make_trial((1, 4), 2, [("5", (5, -5, 0)), ("04711", (0, 0, 0)), ("3", (3, -1, -2))]),
+    "once": make_trial((1, 2), 1, [("1", (0, 0, 1)), ("04711", (0, 0, 0)), ("2", (-1, 0, 0))]),
+}
 
 
 def example_cases(_rng):
     """All examples; nothing is drawn."""
     yield from starred()
     yield from unstarred()
+    yield from aside()
 
 
 def starred():
@@ -59,6 +71,18 @@ def unstarred():
         values = tuple(float(g) for g in range(rows))
         yield WalkCase(f"example-begin-{rows}", (), rows, 1, 1, 1, 4096, rows - 1, 0)
         yield TableCase(f"example-rows-{rows}", values, rows, 1, 1, 1, 4096, 4095, rows)
+
+
+def aside():
+    """Trials with offers set aside, and W's one as a table that is handed in: there the zeros are a column as any."""
+    for name, trial in ASIDE.items():
+        data = write(trial)
+        yield FileCase(f"example-aside-{name}", data, trial.offers, LONGEST_REPORT)
+        yield RecordCase(f"example-aside-record-{name}", trial, len(data), 8 * trial.offers, 8)
+    for kind in (TableCase, WalkCase, BalancedRunCase):
+        room = dict(out_room=24) if kind is BalancedRunCase else {}
+        yield kind(f"example-aside-{kind.__name__}", tuple(table_of(ASIDE["w"])), 8, 3, 1, 1, 4, 0, 8,
+                   **room)
 
 
 def shaped(offers, pairs):

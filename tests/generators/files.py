@@ -1,29 +1,36 @@
 """Trial files, valid and damaged: refusals 1 to 8, alone and before one another."""
 
-from itertools import combinations
+from itertools import chain, combinations
 
 from reference.report import report
 from reference.trial import make_trial
 from reference.trialfile import bytes_of, words_of, write
 
+from .aside import aside_trials, some_aside_trial, sold_somewhere
 from .kinds import FileCase
-from .trials import some_trial, valid_trials
+from .trials import W_OFFERS, some_trial, valid_trials
 
 KINDS = range(16)
 LONGEST_REPORT = 3000  # and some more
-W = make_trial((1, 4), 1, [("0042", (5, 3, 4)), ("7", (2, -1, 1))])
+W = make_trial((1, 4), 1, W_OFFERS)
 # Three offers and two pairs: room for an earlier and a later bad place of each sort.
 BASE = make_trial((2, 8), 2, [("007", (4, 5)), ("42", (3, 1)), ("100", (-2, 6))])
 
 
 def file_cases(rng):
-    """Each shape of a trial once, and damaged files."""
+    """Each shape of a trial once, and damaged files; then the same of trials with offers set aside."""
     yield from cases_of_files(rng, "file", valid_trials(rng, 1), damaged(rng))
+    sizes = ((1, 1), (2, 3), (3, 1), (4, 4), (16, 2))
+    yield from cases_of_files(rng, "file-aside", aside_trials(rng, sizes),
+                              random_damage(rng, 20, some_aside_trial))
 
 
 def further_file_cases(rng):
     """More of each, and each two defects together."""
     yield from cases_of_files(rng, "further", valid_trials(rng, 3), further_damaged(rng))
+    sizes = [(offers, pairs) for offers in range(1, 17) for pairs in rng.sample(range(1, 10), 2)]
+    yield from cases_of_files(rng, "further-aside", chain(aside_trials(rng, sizes), sold_somewhere()),
+                              random_damage(rng, 300, some_aside_trial))
 
 
 def cases_of_files(rng, family, trials, damaged_files):
@@ -184,10 +191,10 @@ def defects_paired(listed):
         yield f"defects-{one}-{two}", bytes_of(first(second(words)))
 
 
-def random_damage(rng, how_many):
+def random_damage(rng, how_many, trial_of=some_trial):
     """Random trials with one to three random edits."""
     for number in range(how_many):
-        words = words_of(write(some_trial(rng, 6, 4)))
+        words = words_of(write(trial_of(rng, 6, 4)))
         for _ in range(rng.choice((1, 1, 2, 3))):
             place = rng.randrange(len(words))
             edit = rng.randrange(5)

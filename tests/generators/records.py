@@ -3,8 +3,9 @@
 from dataclasses import replace
 from itertools import combinations
 
-from reference.trial import Trial, make_trial
+from reference.trial import Trial, make_trial, remaining
 
+from .aside import aside_trials, milk_and_saffron, planned, some_aside_trial
 from .kinds import RecordCase
 from .trials import some_trial
 
@@ -26,6 +27,28 @@ def record_cases(rng):
         yield roomy(f"record-{one}-{two}", defects()[two](defects()[one](BASE)))
     for number in range(60):
         yield roomy(f"record-wild-{number}", wild(rng))
+    yield from aside_records(rng)
+
+
+def aside_records(rng):
+    """Trials with offers set aside; every other one with rubbish, which makes no offer a sold one."""
+    listed = [*aside_trials(rng, ((1, 1), (4, 3))),
+              *((f"any-{number}", some_aside_trial(rng, 16, 4)) for number in range(8)),
+              *((f"sizes-{number}", planned(rng, 7, 4, 2, 4, milk_and_saffron)) for number in range(8))]
+    for turn, (name, trial) in enumerate(listed):
+        yield roomy(f"record-aside-{name}", with_rubbish(rng, trial) if turn % 2 else trial)
+    for turn in range(2):
+        yield from aside_rooms(f"record-aside-room-{turn}", some_aside_trial(rng, 6, 3))
+
+
+def aside_rooms(name, trial):
+    """Buffers that just fit, and some with room for the offers that remain alone: the table has all offers."""
+    rows, left = 2 ** trial.pairs, len(remaining(trial))
+    words = 3 + trial.offers + trial.offers * trial.pairs
+    cells = rows * trial.offers
+    for table_room, work_room in ((cells, rows), (rows * left, rows), (cells - 1, rows),
+                                  (cells, rows - 1), (cells + 1, rows + 1)):
+        yield RecordCase(f"{name}-{table_room}-{work_room}", trial, 4 * words, table_room, work_room)
 
 
 def roomy(name, trial) -> RecordCase:

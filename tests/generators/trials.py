@@ -3,6 +3,8 @@
 from reference.refusals import MAX_B, MAX_DIFFERENCE
 from reference.trial import Trial, make_trial
 
+W_OFFERS = [("0042", (5, 3, 4)), ("7", (2, -1, 1))]
+
 
 def ties(rng, offers, pairs):
     """Few distinct values, so that equal sums are everywhere."""

@@ -8,6 +8,7 @@ method.py     e, k-max, c(K), put-back sets, one step, the stopping rule, counts
 table.py      a lent table: its refusals and its full run
 run.py        a run taken step by step: begin, step, the clauses of refusal 14
 trial.py      the trial record: its refusals, its table, its full run
+aside.py      offers of a trial that are set aside, and the run of those that remain
 trialfile.py  reader and writer of trial files
 adjusted.py   adjusted figures of tables and trials, by trying every e
 balanced.py   balanced tables, their full runs, and the text of the program `balanced`

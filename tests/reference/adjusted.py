@@ -6,9 +6,9 @@ Every e from 0 to M - 1 is tried, and at each the method goes from step 1 to its
 from functools import lru_cache
 from math import isfinite
 
-from . import method
+from . import aside, method
 from .refusals import Refused, fill, table_breaks_4, too_short
-from .trial import Trial, rows_of, table_of, trial_refusal
+from .trial import Trial, remaining, rows_of, table_of, trial_refusal
 
 
 class Criticals:
@@ -91,9 +91,10 @@ def table_figures(values, rows, columns, k, observed, work=None):
 
 
 def trial_figures(trial: Trial, buffer=None, work=None):
-    """The figures of the trial's table, with row 0 observed and the trial's own k; or a refusal.
+    """The figures of the offers that remain, with row 0 observed and the trial's own k; or a refusal.
 
-    After an accepted call `buffer` holds the table, `work` plus zero in its first M places.
+    That of an offer set aside is M, and so is every one where fewer than k remain (document 02, §4).
+    After an accepted call `buffer` holds the table of all offers, `work` plus zero in its first M places.
     """
     number = trial_refusal(trial)
     if number is not None:
@@ -101,4 +102,10 @@ def trial_figures(trial: Trial, buffer=None, work=None):
     rows = rows_of(trial)
     if too_short(buffer, rows * trial.offers) or too_short(work, rows):
         return Refused(12)
-    return table_figures(table_of(trial, buffer), rows, trial.offers, trial.k, 0, work)
+    values, left = table_of(trial, buffer), remaining(trial)
+    fill(work, [0.0] * rows)
+    if len(left) < trial.k:
+        return (rows,) * trial.offers
+    smaller = aside.table_left(values, trial.offers, left)
+    figures = table_figures(smaller, rows, len(left), trial.k, 0)
+    return aside.in_file_order(figures, left, trial.offers, rows)

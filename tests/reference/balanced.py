@@ -8,11 +8,12 @@ from bisect import bisect_right
 from functools import lru_cache
 from math import isfinite
 
+from . import aside
 from . import report as plain_report
 from . import table as lent_table
 from .method import columns_of
 from .refusals import MAX_COLUMNS, MAX_ROWS, Refused, fill, too_short
-from .trial import Trial, rows_of, table_of, trial_refusal
+from .trial import Trial, remaining, rows_of, table_of, trial_refusal
 
 
 def balanced_column(column) -> list:
@@ -66,9 +67,9 @@ def full_run(values, rows, columns, k, a, b, observed, out=None, work=None):
 
 
 def trial_run(trial: Trial, buffer=None, work=None):
-    """The full run of the balanced table of a trial, with row 0 observed; or a refusal.
+    """The full run of the balanced table of the offers that remain, with row 0 observed; or a refusal.
 
-    After an accepted call `buffer` holds the balanced table, and `work` is as for a table.
+    After an accepted call `buffer` holds the balanced table of all offers, and `work` is as for a table.
     """
     number = trial_refusal(trial)
     if number is not None:
@@ -76,7 +77,10 @@ def trial_run(trial: Trial, buffer=None, work=None):
     rows, columns = rows_of(trial), trial.offers
     if too_short(buffer, rows * columns) or too_short(work, rows):
         return Refused(12)
-    return full_run(table_of(trial), rows, columns, trial.k, trial.a, trial.b, 0, buffer, work)
+    values = table_of(trial)
+    table_balanced(values, rows, columns, buffer)
+    fill(work, [0.0] * rows)
+    return aside.full_run(values, columns, remaining(trial), trial.k, trial.a, trial.b, full_run)
 
 
 def report(data: bytes) -> str:

@@ -6,21 +6,30 @@ Those for adjusted figures (document 02, §1) and for balanced tables (§3) come
 from . import balanced
 from .adjusted import figures_refusal, table_figures, trial_figures
 from .refusals import Refused, fill, too_short
-from .table import Rejected, full_run as run_table, table_refusal
+from .table import Aside, Rejected, full_run as run_table, table_refusal
 from .trial import full_run, rows_of
 from .trialfile import read
 
+SET_ASIDE = 255  # the byte of an offer set aside (document 02, §4)
 
-def steps(run) -> bytes:
-    """Per offer, the rejecting step or 0."""
-    return bytes(v.step if isinstance(v, Rejected) else 0 for v in run.verdicts)
+
+def verdict_byte(verdict) -> int:
+    """The rejecting step, or 0 for an offer that is kept, or 255 for one that is set aside."""
+    if isinstance(verdict, Aside):
+        return SET_ASIDE
+    return verdict.step if isinstance(verdict, Rejected) else 0
+
+
+def verdict_bytes(run) -> bytes:
+    """Per offer, the byte of its verdict."""
+    return bytes(map(verdict_byte, run.verdicts))
 
 
 def on_file(data: bytes, buffer: bytearray, run_of=full_run) -> int:
     """The number of rejected offers, or 100 plus the refusal number.
 
-    The buffer's first bytes hold, per offer, the rejecting step or 0. A buffer
-    too short (12) is judged after all checks of the file.
+    The buffer's first bytes hold, per offer, the rejecting step, or 0, or 255 where it is
+    set aside. A buffer too short (12) is judged after all checks of the file.
     """
     trial = read(data)
     if isinstance(trial, Refused):
@@ -28,7 +37,7 @@ def on_file(data: bytes, buffer: bytearray, run_of=full_run) -> int:
     if too_short(buffer, trial.offers):
         return 112
     run = run_of(trial)
-    fill(buffer, steps(run))
+    fill(buffer, verdict_bytes(run))
     return run.rejected()
 
 
@@ -45,7 +54,7 @@ def on_table(values, rows, columns, k, a, b, observed, work, buffer) -> int:
     if too_short(work, rows) or too_short(buffer, columns):
         return 112
     run = run_table(values, rows, columns, k, a, b, observed, work)
-    fill(buffer, steps(run))
+    fill(buffer, verdict_bytes(run))
     return run.rejected()
 
 

@@ -1,8 +1,8 @@
-"""The report program's text (document 01, "Report and C call")."""
+"""The report program's text (document 01, "Report and C call"; document 02, §4)."""
 
 from .method import level_rows
 from .refusals import Refused, fill, too_short
-from .table import FullRun, Rejected
+from .table import Aside, FullRun, Rejected
 from .trial import Trial, full_run, rows_of
 from .trialfile import read
 
@@ -33,9 +33,13 @@ def report_lines(trial: Trial, run: FullRun) -> list:
         lines.append(f"step {record.step} {int(record.critical_value)}")
     for i, verdict in enumerate(run.verdicts):
         code = str(trial.codes[i]).zfill(trial.digits[i])
-        if isinstance(verdict, Rejected):
-            lines.append(f"{code} rejected {verdict.step} {run.counts[i]}")
-        else:
-            lines.append(f"{code} kept {run.records[-1].step} {run.counts[i]}")
+        lines.append(f"{code} {verdict_words(verdict, len(run.records))} {run.counts[i]}")
     lines.append(f"end {run.rejected()}")
     return lines
+
+
+def verdict_words(verdict, steps: int) -> str:
+    """A verdict and its step: the one that rejected, the last one, 0 where none was run."""
+    if isinstance(verdict, Aside):
+        return "aside 0"
+    return f"rejected {verdict.step}" if isinstance(verdict, Rejected) else f"kept {steps}"

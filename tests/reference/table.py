@@ -24,6 +24,11 @@ class Kept:
 
 
 @dataclass(frozen=True)
+class Aside:
+    """A verdict that only an offer of a trial has: set aside, not tested (document 02, §4)."""
+
+
+@dataclass(frozen=True)
 class FullRun:
     """What a full run gives: verdicts and counts by column, and a record a step."""
 

@@ -2,7 +2,7 @@
 
 from dataclasses import dataclass
 
-from . import table as lent_table
+from . import aside
 from .refusals import (MAX_DIFFERENCE, MAX_DIGITS, MAX_OFFERS, MAX_PAIRS, Refused, breaks_3,
                        fill, too_short, trial_breaks_4)
 
@@ -97,6 +97,11 @@ def differences_of(trial: Trial, offer: int) -> tuple:
     return trial.differences[offer * trial.pairs:(offer + 1) * trial.pairs]
 
 
+def remaining(trial: Trial) -> list:
+    """The offers (from 0) that are not set aside (document 02, §4)."""
+    return aside.remaining(differences_of(trial, i) for i in range(trial.offers))
+
+
 def entry(differences, row: int) -> float:
     """The sum of the differences, the sign of pair j (from 0) changed if bit j of the row is 1."""
     return float(sum(-d if row >> j & 1 else d for j, d in enumerate(differences)))
@@ -120,9 +125,9 @@ def table_of(trial: Trial, buffer=None):
 
 
 def full_run(trial: Trial, buffer=None, work=None):
-    """The full run of the trial's table with row 0 observed, or a refusal.
+    """The full run of the offers that remain, with row 0 observed; or a refusal.
 
-    After an accepted call `buffer` holds the table, `work` plus zero in its first M places.
+    After an accepted call `buffer` holds the table of all offers, `work` plus zero in its first M places.
     """
     number = trial_refusal(trial)
     if number is not None:
@@ -131,4 +136,5 @@ def full_run(trial: Trial, buffer=None, work=None):
     if too_short(buffer, rows * trial.offers) or too_short(work, rows):
         return Refused(12)
     values = table_of(trial, buffer)
-    return lent_table.full_run(values, rows, trial.offers, trial.k, trial.a, trial.b, 0, work)
+    fill(work, [0.0] * rows)
+    return aside.full_run(values, trial.offers, remaining(trial), trial.k, trial.a, trial.b)

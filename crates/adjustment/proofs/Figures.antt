@@ -6,6 +6,8 @@
 --   figure-law        a column's figure is at most e exactly where the method rejects it at e
 --   figure-most       it is at most M
 --   figure-is         a number of at most M with that law is the figure
+--   figure-aside      the figure of a column that is not live is M
+--   figures-length, figures-at     there is a figure for each column
 --   figures-few       where fewer than k are live every figure is M
 use Prim.Native.Nat.{ℕ, zero, suc, _≤_, _<_}
 use native.Mathlib.Omega.{arith}
@@ -14,16 +16,21 @@ use mathlib.Core.Path.{_≡_, refl, sym, ap, _∙_, subst}
 use mathlib.Core.Logic.{_↔_}
 use mathlib.Core.Bool.{Bool, true, false, cond}
 use mathlib.Core.List.{List, _∷_}
-use lib.ListN.{length, replicate}
+use lib.ListN.{length, getD, replicate}
 use lib.Dec.{T}
 use lib.Ieee.{Float}
+use Rattle.order.specs.Order.{plusZero}
 use Rattle.order.specs.Lists.{tabulate}
 use Rattle.order.proofs.Booleans.{never, true-T, not-below}
-use Rattle.order.proofs.Lists.{tabulate-same}
+use Rattle.order.proofs.Lists.{tabulate-length, tabulate-getD, tabulate-same}
 use Rattle.order.proofs.Rows.{Sound}
-use Rattle.columns.specs.Columns.{size, columnsOf}
+use Rattle.columns.specs.Columns.{size, inSet, columnsOf}
 use Rattle.columns.proofs.Sets.{has, ⊆-at}
 use Rattle.columns.proofs.Masks.{columnsOf-length}
+use Rattle.runs.specs.Stepdown.{firstState}
+use Rattle.runs.specs.FullRuns.{isRejected}
+use Rattle.runs.specs.declared.Verdict.the-variants.{Kept}
+use Rattle.runs.proofs.Told.{verdict-aside}
 use Rattle.runs.proofs.RejectedSets.{rejectedSetAt}
 use Rattle.runs.proofs.RejectedVerdicts.{verdict-at, too-few-kept}
 use Rattle.runs.proofs.Loosening.{loosening}
@@ -78,8 +85,19 @@ module _ (X : List (List Float)) (rows columns k observed live j : ℕ) where
     unfolding rejectedAt
     rejected-few few e = too-few-kept X rows columns k e observed live j h few
 
+    rejected-aside : inSet live j ≡ false → (e : ℕ) → rejectedAt X rows columns k observed live e j ≡ false
+    unfolding rejectedAt
+    rejected-aside q e = ap isRejected (verdict-aside X (firstState rows columns k e observed live) j h (Kept plusZero) q)
+
+    -- a column that is rejected at no e
+    figure-never : ((e : ℕ) → rejectedAt X rows columns k observed live e j ≡ false) → adjustedFigure X rows columns k observed live j ≡ rows
+    figure-never none = figure-is rows (omega arith) (λ e l. (λ q. absurd (omega arith), λ t. absurd (never (rejectedAt X rows columns k observed live e j) (none e) t)))
+
+    pub figure-aside : inSet live j ≡ false → adjustedFigure X rows columns k observed live j ≡ rows
+    figure-aside q = figure-never (rejected-aside q)
+
     figure-few : size (columnsOf columns live) < k → adjustedFigure X rows columns k observed live j ≡ rows
-    figure-few few = figure-is rows (omega arith) (λ e l. (λ q. absurd (omega arith), λ t. absurd (never (rejectedAt X rows columns k observed live e j) (rejected-few few e) t)))
+    figure-few few = figure-never (rejected-few few)
 
     module _ (sound : Sound columns X) (tall : rows ≡ length X) (seen : observed < rows) (narrow : columns ≤ 32) (pos : 0 < k) where
       pub rejected-set : k ≤ size (columnsOf columns live) → (e : ℕ) → rejectedAt X rows columns k observed live e j ≡ has (rejectedSetAt k e X (columnsOf columns live) observed) j
@@ -105,6 +123,15 @@ tabulate-const : (n x : ℕ) → tabulate n (λ _. x) ≡ replicate n x
 unfolding tabulate
 tabulate-const zero x = refl
 tabulate-const (suc n) x = ap (λ (l : List ℕ). x ∷ l) (tabulate-const n x)
+
+module _ (X : List (List Float)) (rows columns k observed live : ℕ) where
+  pub figures-length : length (adjustedFigures X rows columns k observed live) ≡ columns
+  unfolding adjustedFigures
+  figures-length = tabulate-length columns (λ j. adjustedFigure X rows columns k observed live j)
+
+  pub figures-at : (j : ℕ) → j < columns → getD (adjustedFigures X rows columns k observed live) j 0 ≡ adjustedFigure X rows columns k observed live j
+  unfolding adjustedFigures
+  figures-at j h = tabulate-getD columns (λ j. adjustedFigure X rows columns k observed live j) j 0 h
 
 pub figures-few : (X : List (List Float)) (rows columns k observed live : ℕ) → size (columnsOf columns live) < k → adjustedFigures X rows columns k observed live ≡ replicate columns rows
 unfolding adjustedFigures

@@ -15,7 +15,7 @@ use lib.Dec.{T}
 use lib.Ieee.{Float}
 use Rattle.order.specs.Order.{plusZero}
 use Rattle.order.specs.Lists.{rowsOf}
-use Rattle.order.proofs.Lists.{tabulate-length, tabulate-getD, rowsOf-length}
+use Rattle.order.proofs.Lists.{rowsOf-length}
 use Rattle.refusals.specs.Limits.{allowance}
 use Rattle.columns.specs.Columns.{Columns, everyColumn, fullMask}
 use Rattle.columns.proofs.Masks.{full-columns}
@@ -25,20 +25,20 @@ use Rattle.runs.specs.declared.Verdict.the-variants.{Kept}
 use Rattle.runs.proofs.Start.{full-size}
 use Rattle.stepdown.specs.Refusals.{tableRefusal}
 use Rattle.stepdown.proofs.Accepted as tables
-use Rattle.adjustment.specs.Adjusted.{rejectedAt, adjustedFigure, adjustedFigures, rejectedIn, tableFigures}
+use Rattle.adjustment.specs.Adjusted.{rejectedAt, adjustedFigure, rejectedIn, tableFigures}
 use Rattle.adjustment.specs.Passes.{maximumPass, kMaxPass}
-use Rattle.adjustment.proofs.Figures.{figure-law, figure-most, stays-rejected}
+use Rattle.adjustment.proofs.Figures.{figure-law, figure-most, stays-rejected, figures-length, figures-at}
 use Rattle.adjustment.proofs.Passing.{kMaxPass-agrees, maximumPass-agrees}
 use Rattle.adjustment.proofs.Accepted.{Accepted, levelled, accepted-sound}
 
 module _ (t : List Float) (rows columns k observed : ℕ) where
   pub table-length : length (tableFigures t rows columns k observed) ≡ columns
-  unfolding tableFigures adjustedFigures
-  table-length = tabulate-length columns (λ j. adjustedFigure (rowsOf rows columns t) rows columns k observed (fullMask columns) j)
+  unfolding tableFigures
+  table-length = figures-length (rowsOf rows columns t) rows columns k observed (fullMask columns)
 
   figure-at : (j : ℕ) → j < columns → getD (tableFigures t rows columns k observed) j 0 ≡ adjustedFigure (rowsOf rows columns t) rows columns k observed (fullMask columns) j
-  unfolding tableFigures adjustedFigures
-  figure-at j h = tabulate-getD columns (λ j. adjustedFigure (rowsOf rows columns t) rows columns k observed (fullMask columns) j) j 0 h
+  unfolding tableFigures
+  figure-at = figures-at (rowsOf rows columns t) rows columns k observed (fullMask columns)
 
   pub table-most : (j : ℕ) → j < columns → getD (tableFigures t rows columns k observed) j 0 ≤ rows
   table-most j h = omega (arith, figure-at j h, figure-most (rowsOf rows columns t) rows columns k observed (fullMask columns) j)

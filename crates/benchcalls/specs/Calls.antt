@@ -3,7 +3,7 @@
 --   figuresOf t              a, b, k, offers and pairs of a trial
 --   codesOf t, digitsOf t, differencesOf t     its arrays
 --   trialFrom fs codes digits differences      the trial of these figures and arrays
---   criticalOfRecord m, stepOfDecision d       the critical value of a record; the rejecting step of a verdict, 0 where it is kept
+--   criticalOfRecord m, stepOfDecision d       the critical value of a record; the number that tells a verdict
 --   stepsIn f, criticalsIn f, countsIn f, verdictsOf f     parts of a full run: how many steps, critical values, counts, rejecting steps
 --   fromFile part bytes old              a place after `bench_read`: a part of the file's trial
 --   lengthWritten t places old           the length's place after `bench_write` into so many bytes
@@ -15,12 +15,13 @@ use lib.ListN.{length, getD}
 use lib.IntN.{ℤ}
 use lib.Ieee.{Float}
 use Rattle.refusals.specs.Answers.{answer, afterwards}
-use Rattle.runs.specs.FullRuns.{acceptedRun, rejectingStep}
+use Rattle.runs.specs.FullRuns.{acceptedRun}
 use Rattle.runs.specs.Tables.{tableRun}
 use Rattle.runs.specs.declared.Record.{Record}
 use Rattle.runs.specs.declared.Decision.{Decision}
 use Rattle.runs.specs.declared.FullRun.{FullRun}
 use Rattle.stepdown.specs.Refusals.{tableChecks, tableRunChecks}
+use Rattle.verdicts.specs.Verdicts.{verdictByte}
 use Rattle.trial.specs.Designs.{unitsOf}
 use Rattle.trial.specs.declared.Design.the-variants.{Paired}
 use Rattle.trial.specs.declared.Trial.{Trial}
@@ -58,7 +59,7 @@ abbrev pub criticalOfRecord : Record → Float
 criticalOfRecord m = m .critical
 
 abbrev pub stepOfDecision : Decision → ℕ
-stepOfDecision d = rejectingStep (d .verdict)
+stepOfDecision d = verdictByte (d .verdict)
 
 abbrev pub stepsIn : FullRun → ℕ
 stepsIn f = f .steps

@@ -145,7 +145,7 @@ fn criticals_of(records: [Record; 32]) -> [f64; 32]
     criticals
 }
 
-// The rejecting steps of verdicts, 0 where one is kept.
+// The numbers that tell verdicts: the rejecting step, 0 for kept. (No column of a table is set aside.)
 fn steps_of(decisions: [Decision; 32]) -> [usize; 32]
     ensures { λ r. ⌜ r ≡ map stepOfDecision decisions ⌝ }
 {
@@ -154,7 +154,7 @@ fn steps_of(decisions: [Decision; 32]) -> [usize; 32]
     while j < 32 {
         let d = decisions[j];
         let v = d.verdict;
-        let s = verdicts::rejecting_step(v);
+        let s = verdicts::verdict_byte(v);
         steps[j] = s;
         j += 1;
     }

@@ -31,6 +31,7 @@ use Rattle.adjustment.specs.declared.Adjusted.{Adjusted}
 use Rattle.balance.specs.Balance.{balancedTable}
 use Rattle.tablebalance.specs.Answers.{badCounts, balanceChecks, balanceRefusal, balanceBuffer, balancedRun, balancedChecks, balancedRefusal, balancedAnswer}
 use Rattle.verdicts.specs.Verdicts.{rejectedCount}
+use Rattle.trial.specs.Aside.{liveMask}
 use Rattle.trial.specs.Exchange.{rowTotal, tableOf}
 use Rattle.trial.specs.Designs.{designChecks}
 use Rattle.trial.specs.Record.{figureCount, settingOf, figuresOf}
@@ -51,7 +52,7 @@ use Rattle.trialrun.specs.FileRuns.{fileRun}
 use Rattle.trialadjustment.specs.TrialFigures.{trialFigures, trialFiguresAnswer}
 use Rattle.trialbalance.specs.TrialBalance.{trialBalancedRun, trialBalancedAnswer}
 use Rattle.trialbalance.specs.FileBalance.{fileBalancedRun}
-use Rattle.host.specs.Calls.{stepBytes, fileOffers, trialVerdictsChecks, trialVerdictsRefusal, trialVerdictsAnswer, trialVerdictsBuffer, tableVerdictsChecks, tableVerdictsRefusal, tableVerdictsAnswer, tableVerdictsBuffer}
+use Rattle.host.specs.Calls.{verdictBytes, fileOffers, trialVerdictsChecks, trialVerdictsRefusal, trialVerdictsAnswer, trialVerdictsBuffer, tableVerdictsChecks, tableVerdictsRefusal, tableVerdictsAnswer, tableVerdictsBuffer}
 use Rattle.host.specs.AdjustedCalls.{tableAdjustedChecks, tableAdjustedRefusal, tableAdjustedAnswer, tableAdjustedWork, tableAdjustedBuffer, trialAdjustedChecks, trialAdjustedRefusal, trialAdjustedAnswer, trialAdjustedBuffer, trialAdjustedRows}
 use Rattle.host.specs.BalancedCalls.{tableBalancedAnswer, trialBalancedVerdictsAnswer, trialBalancedVerdictsBuffer}
 use Rattle.view.specs.Entries.{entryOf, held}
@@ -184,7 +185,7 @@ balanced-number t rows columns k a b observed places work = answer-map (λ (f : 
 -- the table that is made for a run of a trial, and the runs: one number
 pub size-number : (t : Trial) (places work : ℕ) → runSize t places work .refusal ≡ runCallRefusal t places work
 unfolding runSize runCallRefusal
-size-number t places work = answer-map (λ (s : TableSize). s .refusal) (runCallChecks t places work) (record { refusal = 0; rows = rowTotal t; columns = t .shape .offers }) refusedSize
+size-number t places work = answer-map (λ (s : TableSize). s .refusal) (runCallChecks t places work) (record { refusal = 0; rows = rowTotal t; columns = t .shape .offers; live = liveMask t }) refusedSize
 
 pub trial-number : (t : Trial) (places work : ℕ) → trialAnswer t places work .refusal ≡ runCallRefusal t places work
 unfolding trialAnswer runCallRefusal acceptedRun
@@ -221,14 +222,14 @@ table-accepted t buf h = answered (tableCallChecks t (length buf)) _ (λ _. buf)
 
 -- from C: the number of rejected offers, and the rejecting steps in the first bytes
 pub c-trial-accepted : (file verdicts : List ℕ) → trialVerdictsRefusal file (length verdicts) ≡ 0 → let ds = fileRun file .run .decisions in
-    (trialVerdictsAnswer file (length verdicts) ≡ rejectedCount (fileOffers file) ds) × (trialVerdictsBuffer file verdicts ≡ written (stepBytes (fileOffers file) ds) verdicts)
+    (trialVerdictsAnswer file (length verdicts) ≡ rejectedCount (fileOffers file) ds) × (trialVerdictsBuffer file verdicts ≡ written (verdictBytes (fileOffers file) ds) verdicts)
 unfolding trialVerdictsAnswer trialVerdictsBuffer trialVerdictsRefusal
 c-trial-accepted file verdicts h = (answered (trialVerdictsChecks file (length verdicts)) _ (λ n. 100 + n) .gives h, answered (trialVerdictsChecks file (length verdicts)) _ (λ _. verdicts) .gives h)
 
 pub c-table-accepted : (t : List Float) (rows columns k a b observed : ℕ) (work : ℕ) (verdicts : List ℕ) → tableVerdictsRefusal t rows columns k a b observed work (length verdicts) ≡ 0
     → let ds = acceptedRun (tableRun t rows columns k a b observed) .decisions in
     (tableVerdictsAnswer t rows columns k a b observed work (length verdicts) ≡ rejectedCount columns ds)
-    × (tableVerdictsBuffer t rows columns k a b observed work verdicts ≡ written (stepBytes columns ds) verdicts)
+    × (tableVerdictsBuffer t rows columns k a b observed work verdicts ≡ written (verdictBytes columns ds) verdicts)
 unfolding tableVerdictsAnswer tableVerdictsBuffer tableVerdictsRefusal
 c-table-accepted t rows columns k a b observed work verdicts h =
     (answered (tableVerdictsChecks t rows columns k a b observed work (length verdicts)) _ (λ n. 100 + n) .gives h, answered (tableVerdictsChecks t rows columns k a b observed work (length verdicts)) _ (λ _. verdicts) .gives h)
@@ -257,7 +258,7 @@ unfolding tableBalancedAnswer balanceBuffer balanceRefusal
 c-table-balanced t rows columns out h = let cs = balanceChecks t rows columns (length out) in (answered cs _ (λ n. 100 + n) .gives h, answered cs _ (λ _. out) .gives h)
 
 pub c-trial-balanced : (file verdicts : List ℕ) → trialVerdictsRefusal file (length verdicts) ≡ 0 → let ds = fileBalancedRun file .run .decisions in
-    (trialBalancedVerdictsAnswer file (length verdicts) ≡ rejectedCount (fileOffers file) ds) × (trialBalancedVerdictsBuffer file verdicts ≡ written (stepBytes (fileOffers file) ds) verdicts)
+    (trialBalancedVerdictsAnswer file (length verdicts) ≡ rejectedCount (fileOffers file) ds) × (trialBalancedVerdictsBuffer file verdicts ≡ written (verdictBytes (fileOffers file) ds) verdicts)
 unfolding trialBalancedVerdictsAnswer trialBalancedVerdictsBuffer trialVerdictsRefusal
 c-trial-balanced file verdicts h = let cs = trialVerdictsChecks file (length verdicts) in (answered cs _ (λ n. 100 + n) .gives h, answered cs _ (λ _. verdicts) .gives h)
 

@@ -4,11 +4,12 @@
 -- beside this page lists them, with the stated orders. docs/CLAIMS.md maps every sentence of document 01, and of the requests, to what keeps it.
 use Prim.Native.Nat.{ℕ, _+_, _*_, _-_, _^_, _≤_, _<_}
 use mathlib.Core.Path.{_≡_, refl, _∙_}
-use mathlib.Core.Bool.{Bool, true}
-use mathlib.Core.List.{List, map}
+use mathlib.Core.Bool.{Bool, true, false}
+use mathlib.Core.List.{List, [], _∷_, map}
 use mathlib.Core.Logic.{_↔_, _⊎_}
-use lib.ListN.{length, getD, take}
+use lib.ListN.{length, getD, replicate, take}
 use lib.Dec.{T, ltb}
+use lib.IntN.{ℤ, pos}
 use lib.Ieee.{Float, nan, binary64, ofInt, toSigned}
 use Rattle.limits.specs.Limits.{inputRoom, longestReport, longestSheet}
 use Rattle.order.specs.Order.{plusZero, finite, smaller, atMost, equal}
@@ -24,12 +25,14 @@ use Rattle.refusals.specs.Limits.{allowance}
 use Rattle.refusals.specs.Buffers.{written, cleared}
 use Rattle.refusals.proofs.Answers.{Answered, answered, none-holds}
 use Rattle.columns.specs.Columns.{size, everyColumn}
-use Rattle.runs.specs.Stepdown.{rejectedSet, leftOver, newlyRejected}
-use Rattle.runs.specs.FullRuns.{acceptedRun, refusedRun, verdictsIn, isRejected}
+use Rattle.runs.specs.Stepdown.{rejectedSet, leftOver, newlyRejected, fullRun}
+use Rattle.runs.specs.FullRuns.{acceptedRun, refusedRun, verdictsIn, isRejected, isAside}
 use Rattle.runs.specs.declared.Verdict.the-variants.{Kept}
 use Rattle.runs.specs.Tables.{tableRun}
 use Rattle.runs.specs.Examples.{examples}
 use Rattle.runs.proofs.Examples.{all-examples}
+use Rattle.runs.proofs.Told as told
+use Rattle.verdicts.proofs.StepNumbers.{Tells, run-tells}
 use Rattle.stepdown.specs.Runs.{begun, stateOf, nextRun}
 use Rattle.stepdown.specs.Refusals.{tableRefusal, tableRunChecks, tableRunRefusal, stepRefusal}
 use Rattle.stepdown.specs.Answers.{fullAnswer, fullWork}
@@ -43,7 +46,7 @@ use Rattle.adjustment.specs.Examples as adjusted
 use Rattle.adjustment.proofs.Accepted.{accepted}
 use Rattle.adjustment.proofs.Tables as figures
 use Rattle.adjustment.proofs.Examples as figure-examples
-use Rattle.balance.specs.Balance.{rank, whole, balancedTable}
+use Rattle.balance.specs.Balance.{rank, whole, balancedRows, balancedTable}
 use Rattle.balance.specs.Examples as ranked
 use Rattle.balance.proofs.Balanced.{balancedTable-entry}
 use Rattle.balance.proofs.Examples as rank-examples
@@ -52,25 +55,30 @@ use Rattle.tablebalance.specs.Examples as balanced
 use Rattle.tablebalance.proofs.Accepted.{accepted-balanced}
 use Rattle.tablebalance.proofs.Counted as counted
 use Rattle.tablebalance.proofs.Examples as balance-examples
-use Rattle.trial.specs.Designs.{entryOf}
+use Rattle.trial.specs.Designs.{entryOf, untested}
 use Rattle.trial.specs.Record.{ArrayLengths, trimmed, Same, Keeps}
-use Rattle.trial.specs.Exchange.{byOffer, rowOf, rowTotal, tableOf}
+use Rattle.trial.specs.Aside.{liveOffers}
+use Rattle.trial.specs.Exchange.{byOffer, rowOf, rowTotal, trialRows, tableOf}
 use Rattle.trial.specs.Refusals.{trialRefusal}
 use Rattle.trial.specs.declared.Trial.{Trial}
-use Rattle.trial.proofs.Accepted as trials-checked
+use Rattle.trial.specs.declared.Design.the-variants.{Paired}
+use Rattle.trial.proofs.Aside.{every-difference}
 use Rattle.trial.proofs.Unused.{same-trimmed}
 use Rattle.trial.proofs.Exact.{row-exact}
 use Rattle.words.specs.Words.{Bytes, wordsOf}
 use Rattle.trialfile.specs.Files.{fileChecks, trialOf, fileRefusal, readingOf}
 use Rattle.trialwriter.specs.Writings.{fileLength, writingOf, afterWriting}
-use Rattle.trialrun.specs.TrialRuns.{trialRun, runCallChecks, runCallRefusal, trialAnswer, runWork}
+use Rattle.trialrun.specs.TrialRuns.{trialStart, trialRun, runCallChecks, runCallRefusal, trialAnswer, runWork}
 use Rattle.trialbalance.specs.TrialBalance.{trialBalanced, trialBalancedRun, trialBalancedAnswer, runBalanced}
 use Rattle.trialadjustment.specs.TrialFigures.{rejectedOf, trialFigures, trialFiguresAnswer}
-use Rattle.trialadjustment.proofs.Calls.{table-passes}
 use Rattle.trialadjustment.proofs.Trials as trialfigures
+use Rattle.trialrun.proofs.Aside as asides
+use Rattle.trialbalance.proofs.Calls as balancing
+use Rattle.control.proofs.Trials as runs-of-trials
 use Rattle.control.proofs.Answered.{tables-answered, trials-answered, balanced-tables-answered, balanced-trials-answered}
-use Rattle.text.specs.Text.{cents, refusedText}
-use Rattle.rendering.specs.Reports.{recordAt, trialText, reportOf, balancedReportOf}
+use Rattle.text.specs.Ascii.{ascii}
+use Rattle.text.specs.Text.{printed, decimal, cents, line, refusedText}
+use Rattle.rendering.specs.Reports.{recordAt, offerLineAt, trialText, reportOf, balancedReportOf}
 use Rattle.rendering.specs.Renderings.{renderingOf, afterRendering}
 use Rattle.text.specs.Renderings.{textAnswer, afterText}
 use Rattle.sheet.specs.Sheets.{sheetText, sheetOf}
@@ -79,8 +87,9 @@ use Rattle.sheet.proofs.Inputs as sheet-inputs
 use Rattle.streams.specs.Programs.{Gives}
 use Rattle.stepdown.proofs.StepByStep as steps
 use Rattle.trialrun.proofs.Runs as trialruns
-use Rattle.control.specs.Statements.{runsThatReject, SameOn, ListedOn}
+use Rattle.control.specs.Statements.{runsThatReject, SameOn, figuresAt, ListedOn}
 use Rattle.rendering.proofs.Rendered as rendered
+use Rattle.rendering.proofs.AsideLines as lines
 use Rattle.rendering.proofs.Inputs as inputs
 use Rattle.rendering.proofs.PrintableFiles as printing
 use Rattle.streams.proofs.Programs as programs
@@ -129,7 +138,7 @@ pub step-ended : (t : List Float) (r : Run) (places : ℕ) → stepRefusal t r p
     → (nextRun t r .ended ≡ true) ↔ ((size (newlyRejected (rowsOf (r .rows) (r .columns) t) (stateOf r)) ≡ 0) ⊎ ((size (rejectedSet (stateOf (nextRun t r))) < r .k) ⊎ (size (leftOver (stateOf (nextRun t r))) ≡ 0)))
 step-ended = steps.step-ended
 
--- an accepted trial: its entries are exact, and its full run is that of its table
+-- an accepted trial: its entries are exact, and its full run is the method's on its table, over the offers that are not set aside (document 02, §4)
 module _ (t : Trial) where
   pub sums-exact : trialRefusal t ≡ 0 → (g : ℕ) → map (toSigned 63) (rowOf t g) ≡ map (entryOf (t .shape .design) g) (byOffer t)
   sums-exact = row-exact t
@@ -167,7 +176,8 @@ starred = all-examples
 -- ==== 3. Controlled ====
 
 -- whichever shops the coins had picked, at most floor(2^n × a/b) of the 2^n runs reject k or more idle offers, whatever the other offers show in each run:
--- the verdicts are those that the full runs answer, with buffers that are long enough
+-- the verdicts are those that the full runs answer, with buffers that are long enough. Of the other offers nothing is asked but that each run's trial is
+-- accepted: one of them may be set aside in some runs and not in others
 pub trials : (t : Trial) (idle : ℕ → Bool) (runs : ℕ → Trial) → trialRefusal t ≡ 0
     → ((g : ℕ) → g < rowTotal t → trialRefusal (runs g) ≡ 0)
     → ((g : ℕ) → g < rowTotal t → Keeps t (runs g))
@@ -217,15 +227,14 @@ pub on-the-list : (t : List Float) (rows columns k a b observed : ℕ) → table
     → (getD (tableFigures t rows columns k observed) j 0 ≤ allowance rows a b) ↔ T (isRejected (getD (tableRun t rows columns k a b observed .verdicts) j (Kept plusZero)))
 on-the-list = figures.table-level
 
--- a trial's figures are those of its table, with its own k: the same holds of its offers
+-- a trial's figures are those of its table over the offers that are not set aside, with its own k: the same holds of its offers, those set aside among them
 module _ (t : Trial) where
   pub trial-figures : (places work : ℕ) → runCallRefusal t places work ≡ 0 → trialFiguresAnswer t places work ≡ acceptedFigures (rowTotal t) (trialFigures t)
   unfolding trialFiguresAnswer runCallRefusal
   trial-figures places work h = answered (runCallChecks t places work) _ refusedFigures .gives h
 
-  pub trial-by-one-pass : trialRefusal t ≡ 0 → kMaxPass (t .shape .k) (rowsOf (rowTotal t) (t .shape .offers) (tableOf t)) (everyColumn (t .shape .offers)) 0 ≡ trialFigures t
-  unfolding trialFigures
-  trial-by-one-pass ok = by-one-pass (tableOf t) (rowTotal t) (t .shape .offers) (t .shape .k) 0 (table-passes t ok)
+  pub trial-by-one-pass : trialRefusal t ≡ 0 → t .shape .k ≤ size (liveOffers t) → kMaxPass (t .shape .k) (trialRows t) (liveOffers t) 0 ≡ trialFigures t
+  trial-by-one-pass = trialfigures.trial-pass t
 
   module _ (ok : trialRefusal t ≡ 0) (i : ℕ) (h : i < t .shape .offers) where
     pub trial-drops-nobody : (e e′ : ℕ) → e ≤ e′ → e′ < rowTotal t → T (rejectedOf t e i) → T (rejectedOf t e′ i)
@@ -239,7 +248,7 @@ module _ (t : Trial) where
 
 -- the level has no part in the figures: a sheet serves every level at which the same offers and figures are judged
 pub one-sheet : (t u : Trial) → t .shape ≡ u .shape → byOffer t ≡ byOffer u → trialFigures t ≡ trialFigures u
-one-sheet = trialfigures.level-aside
+one-sheet = trialfigures.one-level
 
 -- what the program for the sheet prints, of an input that it read into such a buffer, is the sheet of the whole input: the figures of its trial, or its refusal
 pub sheet-program : (whole buffer text : List ℕ) (n : ℕ) → inputRoom ≤ length buffer → longestSheet ≤ length text → Gives whole buffer n
@@ -319,9 +328,9 @@ module _ (t : List Float) (rows columns k a b observed : ℕ) where
 pub balanced-figures : (t : List Float) (rows columns k observed : ℕ) → firstRefusal (adjustmentChecks t rows columns k observed) ≡ 0 → firstRefusal (adjustmentChecks (balancedTable t rows columns) rows columns k observed) ≡ 0
 balanced-figures = figures-accepted
 
--- a trial's balanced run is that of its table, with row 0 observed; the balanced table stands in the table's buffer
+-- a trial's balanced run is that of the balanced rows of its table, from the state that its plain run begins with; the balanced table stands in the table's buffer
 module _ (t : Trial) where
-  pub trial-balanced-run : (places work : ℕ) → runCallRefusal t places work ≡ 0 → trialBalancedAnswer t places work ≡ acceptedRun (balancedRun (tableOf t) (rowTotal t) (t .shape .offers) (t .shape .k) (t .level .a) (t .level .b) 0)
+  pub trial-balanced-run : (places work : ℕ) → runCallRefusal t places work ≡ 0 → trialBalancedAnswer t places work ≡ acceptedRun (fullRun (balancedRows (trialRows t)) (trialStart t))
   unfolding trialBalancedAnswer trialBalancedRun runCallRefusal
   trial-balanced-run places work h = answered (runCallChecks t places work) _ refusedRun .gives h
 
@@ -331,8 +340,7 @@ module _ (t : Trial) where
   trial-balanced-buffers table work h = let cs = runCallChecks t (length table) (length work) in (answered cs _ (λ _. table) .gives h, answered cs _ (λ _. work) .gives h)
 
   pub trial-balanced-counts : trialRefusal t ≡ 0 → trialBalancedRun t .counts ≡ trialRun t .counts
-  unfolding trialBalancedRun trialRun balancedRun
-  trial-balanced-counts ok = balanced-counts (tableOf t) (rowTotal t) (t .shape .offers) (t .shape .k) (t .level .a) (t .level .b) 0 (trialruns.table-accepted t (trials-checked.accepted t ok))
+  trial-balanced-counts = balancing.trial-counts t
 
 -- what the second report program prints, of an input that it read into such a buffer, is the balanced report of the whole input
 pub balanced-program : (whole buffer text : List ℕ) (n : ℕ) → inputRoom ≤ length buffer → longestReport ≤ length text → Gives whole buffer n
@@ -370,3 +378,54 @@ balanced-tables = balanced-tables-answered
 -- balanced tables with ties and with both zeros; those of W, and of milk and saffron, with their runs
 pub balanced-examples : (map (λ x. balancedTable (x .table) (x .rows) (x .columns)) ranked.examples ≡ map (λ x. x .told) ranked.examples) × (map (λ x. x .asked) balanced.examples ≡ map (λ x. x .told) balanced.examples)
 balanced-examples = (rank-examples.all-examples, balance-examples.all-examples)
+
+-- ==== Offers that never sold (document 02, §4) ====
+
+-- in a paired trial an offer has not been tested where its difference is 0 in every pair
+pub not-tested : (pairs : ℕ) (xs : List ℤ) → T (untested (Paired pairs) xs) ↔ ((j : ℕ) → j < length xs → getD xs j (pos 0) ≡ pos 0)
+not-tested = every-difference
+
+module _ (t : Trial) (i : ℕ) (h : i < t .shape .offers) where
+  -- an offer is set aside exactly where it has not been tested, by the trial's own figures, in the balanced run too
+  pub set-aside : (isAside (getD (trialRun t .verdicts) i (Kept plusZero)) ≡ untested (t .shape .design) (figuresAt t i))
+      × (isAside (getD (trialBalancedRun t .verdicts) i (Kept plusZero)) ≡ untested (t .shape .design) (figuresAt t i))
+  unfolding trialRun trialBalancedRun
+  set-aside = (asides.aside-told t (trialRows t) i h (Kept plusZero), asides.aside-told t (balancedRows (trialRows t)) i h (Kept plusZero))
+
+  -- its line reads code, `aside`, 0, 0 in both reports, and its figure is M
+  module _ (q : T (untested (t .shape .design) (figuresAt t i))) where
+    pub aside-lines : let reads = line (printed (getD (t .labels .digits) i 0) (getD (t .labels .codes) i 0)) (ascii "aside" ∷ decimal 0 ∷ decimal 0 ∷ []) in
+        (offerLineAt (t .labels) (acceptedRun (trialRun t)) i ≡ reads) × (offerLineAt (t .labels) (acceptedRun (trialBalancedRun t)) i ≡ reads)
+    unfolding trialRun trialBalancedRun
+    aside-lines = (lines.aside-line t (trialRows t) i h q, lines.aside-line t (balancedRows (trialRows t)) i h q)
+
+    pub aside-figure : getD (trialFigures t) i 0 ≡ rowTotal t
+    aside-figure = trialfigures.trial-aside t i h q
+
+  -- its byte for C is 255, and no other's is; a rejected offer's is the step, from 1 to 32
+  pub bytes-tell : Tells (getD (trialRun t .verdicts) i (Kept plusZero)) × Tells (getD (trialBalancedRun t .verdicts) i (Kept plusZero))
+  unfolding trialRun trialBalancedRun
+  bytes-tell = (run-tells (trialRows t) (trialStart t) refl i h (Kept plusZero), run-tells (balancedRows (trialRows t)) (trialStart t) refl i h (Kept plusZero))
+
+-- where fewer than k offers remain no step is run, in either run: each of them is kept with step 0, its count and plus zero; every figure is M
+module _ (t : Trial) (few : size (liveOffers t) < t .shape .k) where
+  pub no-step : (trialRun t .records ≡ []) × (trialBalancedRun t .records ≡ [])
+  unfolding trialRun trialBalancedRun
+  no-step = (asides.few-none t (trialRows t) few, asides.few-none t (balancedRows (trialRows t)) few)
+
+  pub kept-without-steps : (i : ℕ) → i < t .shape .offers → untested (t .shape .design) (figuresAt t i) ≡ false
+      → (getD (trialRun t .verdicts) i (Kept plusZero) ≡ Kept plusZero) × (getD (trialBalancedRun t .verdicts) i (Kept plusZero) ≡ Kept plusZero)
+  unfolding trialRun trialBalancedRun
+  kept-without-steps i h q = (asides.few-told t (trialRows t) i h q few (Kept plusZero), asides.few-told t (balancedRows (trialRows t)) i h q few (Kept plusZero))
+
+  pub few-figures : trialFigures t ≡ replicate (t .shape .offers) (rowTotal t)
+  few-figures = trialfigures.trial-few t few
+
+-- in the runs of demand 3 an idle offer is set aside in all runs or in none
+pub idle-alike : (t u : Trial) (g : ℕ) (idle : ℕ → Bool) → Keeps t u → ListedOn idle g t u → (i : ℕ) → i < t .shape .offers → T (idle i)
+    → untested (u .shape .design) (figuresAt u i) ≡ untested (t .shape .design) (figuresAt t i)
+idle-alike = runs-of-trials.idle-alike
+
+-- tables handed in know nothing of this: no column is set aside
+pub tables-tested : (t : List Float) (rows columns k a b observed j : ℕ) → j < columns → isAside (getD (tableRun t rows columns k a b observed .verdicts) j (Kept plusZero)) ≡ false
+tables-tested t rows columns k a b observed j h = told.table-tested t rows columns k a b observed j h (Kept plusZero)

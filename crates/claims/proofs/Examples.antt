@@ -1,14 +1,17 @@
 -- Reports letter by letter, from the bytes of a file: W as printed, a starred example of document 01, and balanced; both reports of the trial milk and
--- saffron (document 02, §3).
+-- saffron (document 02, §3), and of trials with offers that are set aside (§4).
 --   w-report, w-balanced-report                 of W
 --   saffron-read                                the file of milk and saffron is read as its trial
 --   saffron-report, saffron-balanced-report     of milk and saffron: the milk sets the critical value; balanced, saffron is rejected
+--   aside-report, aside-balanced-report         of W with a third offer of zeros: W's lines and that offer's
+--   cancelled-report     of two offers with k 2: the differences of 0042 cancel, and it is not set aside; but fewer than k offers remain, so no step is run
+--   zeros-report         of two offers of zeros: none remains
 use mathlib.Core.Path.{_≡_, refl}
 use lib.Ieee.{lt, le, toSigned}
 use Rattle.runs.specs.FullRuns.{acceptedRun}
 use Rattle.words.specs.Words.{bytesOf, signed}
 use Rattle.trialfile.specs.Files.{readingOf}
-use Rattle.trialfile.specs.Examples.{wordsW, wordsSaffron}
+use Rattle.trialfile.specs.Examples.{wordsW, wordsSaffron, wordsAside, wordsCancelled, wordsZeros}
 use Rattle.trialrun.specs.TrialRuns.{trialRun}
 use Rattle.trialbalance.specs.TrialBalance.{trialBalancedRun}
 use Rattle.trialbalance.specs.Examples.{trialSaffron}
@@ -35,3 +38,21 @@ saffron-report = refl
 pub saffron-balanced-report : balancedReportOf (bytesOf wordsSaffron) ≡ ascii "trial 3 2 1 2 8\nstep 1 7\nstep 2 6\n4011 kept 2 3\n0907 rejected 1 1\nend 1\n"
 unfolding balancedReportOf bytesOf wordsSaffron signed acceptedRun trialBalancedRun lt le toSigned printed decimalUpTo
 saffron-balanced-report = refl
+
+-- ---- offers that are set aside
+
+pub aside-report : reportOf (bytesOf wordsAside) ≡ ascii "trial 3 3 1 2 8\nstep 1 4\nstep 2 2\n0042 rejected 1 1\n7 kept 2 3\n04711 aside 0 0\nend 1\n"
+unfolding reportOf bytesOf wordsAside signed acceptedRun trialRun lt le toSigned printed decimalUpTo
+aside-report = refl
+
+pub aside-balanced-report : balancedReportOf (bytesOf wordsAside) ≡ ascii "trial 3 3 1 2 8\nstep 1 7\nstep 2 7\n0042 rejected 1 1\n7 kept 2 3\n04711 aside 0 0\nend 1\n"
+unfolding balancedReportOf bytesOf wordsAside signed acceptedRun trialBalancedRun lt le toSigned printed decimalUpTo
+aside-balanced-report = refl
+
+pub cancelled-report : (reportOf (bytesOf wordsCancelled) ≡ ascii "trial 2 2 2 1 4\n0042 kept 0 3\n7 aside 0 0\nend 0\n") × (balancedReportOf (bytesOf wordsCancelled) ≡ ascii "trial 2 2 2 1 4\n0042 kept 0 3\n7 aside 0 0\nend 0\n")
+unfolding reportOf balancedReportOf bytesOf wordsCancelled signed acceptedRun trialRun trialBalancedRun lt le toSigned printed decimalUpTo
+cancelled-report = (refl, refl)
+
+pub zeros-report : (reportOf (bytesOf wordsZeros) ≡ ascii "trial 1 2 1 0 2\n0042 aside 0 0\n7 aside 0 0\nend 0\n") × (balancedReportOf (bytesOf wordsZeros) ≡ ascii "trial 1 2 1 0 2\n0042 aside 0 0\n7 aside 0 0\nend 0\n")
+unfolding reportOf balancedReportOf bytesOf wordsZeros signed acceptedRun trialRun trialBalancedRun lt le toSigned printed decimalUpTo
+zeros-report = (refl, refl)

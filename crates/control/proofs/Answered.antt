@@ -12,26 +12,26 @@ use lib.Seq.{take-at}
 use lib.Ieee.{Float}
 use Rattle.order.specs.Order.{plusZero}
 use Rattle.order.specs.Lists.{rowsOf}
-use Rattle.order.proofs.Lists.{tabulate-length}
 use Rattle.refusals.specs.Answers.{Checks, answer, firstRefusal}
 use Rattle.refusals.specs.Buffers.{tooShort}
 use Rattle.refusals.specs.Limits.{allowance}
 use Rattle.refusals.proofs.Answers.{answered, first-passes}
 use Rattle.refusals.proofs.Buffers.{lent-passes}
-use Rattle.runs.specs.Stepdown.{Outcome, stepsOf, verdictOf, fullRun}
+use Rattle.runs.specs.Stepdown.{Outcome}
 use Rattle.runs.specs.FullRuns.{decision, acceptedRun, refusedRun, verdictsIn}
 use Rattle.runs.specs.Tables.{tableStart, tableRun}
 use Rattle.runs.specs.declared.Verdict.{Verdict}
 use Rattle.runs.specs.declared.Verdict.the-variants.{Kept}
+use Rattle.runs.proofs.Told.{verdicts-length}
 use Rattle.stepdown.specs.Refusals.{tableChecks, tableRefusal, tableRunChecks}
 use Rattle.stepdown.specs.Answers.{fullAnswer}
-use Rattle.balance.specs.Balance.{balancedTable}
+use Rattle.balance.specs.Balance.{balancedRows, balancedTable}
 use Rattle.tablebalance.specs.Answers.{balancedRun, balancedChecks, balancedAnswer}
 use Rattle.trial.specs.Record.{Setting, Keeps}
-use Rattle.trial.specs.Exchange.{rowTotal, tableOf}
+use Rattle.trial.specs.Exchange.{rowTotal, trialRows}
 use Rattle.trial.specs.Refusals.{trialChecks, trialRefusal}
 use Rattle.trial.specs.declared.Trial.{Trial}
-use Rattle.trialrun.specs.TrialRuns.{trialRun, runCallChecks, trialAnswer}
+use Rattle.trialrun.specs.TrialRuns.{trialStart, trialRun, runCallChecks, trialAnswer}
 use Rattle.trialbalance.specs.TrialBalance.{trialBalancedRun, trialBalancedAnswer}
 use Rattle.control.proofs.General.{counted}
 use Rattle.control.proofs.Tables.{tables, balanced-tables}
@@ -51,8 +51,8 @@ shown : (n : ℕ) (cs : Checks) (o : Outcome) → firstRefusal cs ≡ 0 → leng
 shown n cs o ok h = ap (verdictsIn n) (answered cs (acceptedRun o) refusedRun .gives ok) ∙ verdicts-told n o h
 
 run-verdicts : (t : List Float) (rows columns k a b o : ℕ) → length (tableRun t rows columns k a b o .verdicts) ≡ columns
-unfolding tableRun fullRun
-run-verdicts t rows columns k a b o = tabulate-length columns (λ j. verdictOf (stepsOf (rowsOf rows columns t) (tableStart rows columns k a b o)) j)
+unfolding tableRun
+run-verdicts t rows columns k a b o = verdicts-length (rowsOf rows columns t) (tableStart rows columns k a b o)
 
 -- ---- tables
 
@@ -94,11 +94,11 @@ module _ (t : Trial) where
 
   trial-verdicts : length (trialRun t .verdicts) ≡ t .shape .offers
   unfolding trialRun
-  trial-verdicts = run-verdicts (tableOf t) (rowTotal t) (t .shape .offers) (t .shape .k) (t .level .a) (t .level .b) 0
+  trial-verdicts = verdicts-length (trialRows t) (trialStart t)
 
   balanced-verdicts : length (trialBalancedRun t .verdicts) ≡ t .shape .offers
   unfolding trialBalancedRun
-  balanced-verdicts = run-verdicts (balancedTable (tableOf t) (rowTotal t) (t .shape .offers)) (rowTotal t) (t .shape .offers) (t .shape .k) (t .level .a) (t .level .b) 0
+  balanced-verdicts = verdicts-length (balancedRows (trialRows t)) (trialStart t)
 
 module _ (t : Trial) (idle : ℕ → Bool) (runs : ℕ → Trial) (ok : trialRefusal t ≡ 0)
     (oks : (g : ℕ) → g < rowTotal t → trialRefusal (runs g) ≡ 0)

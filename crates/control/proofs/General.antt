@@ -3,8 +3,9 @@
 -- Then k or more idle columns are rejected in at most e of the runs.
 --   keysAt K row        the values of a row at K, as numbers
 --   Member, Family      what is asked of run g, and of X and all the runs
---   general             the theorem
---   counted             the bound, for runs that show the same verdicts
+--   general             the theorem, where the idle columns are live
+--   counted-by, counted     the bound, for runs that reject no more idle columns, and for those that show the same verdicts
+--   general-aside       the theorem, where idle columns may be set aside, each in all runs or in none
 use Prim.Native.Nat.{ℕ, _≤_, _<_}
 use native.Mathlib.Omega.{arith}
 use native.Mathlib.Decide.{decLe}
@@ -18,12 +19,12 @@ use lib.Ieee.{Float}
 use Rattle.order.specs.Order.{plusZero}
 use Rattle.order.specs.Counting.{count, countBelow}
 use Rattle.order.specs.Lists.{tabulate}
-use Rattle.order.proofs.Booleans.{same-test, and-left, and-right, not-below}
+use Rattle.order.proofs.Booleans.{same-test, and-left, and-right, and-both, not-below}
 use Rattle.order.proofs.Keys.{key}
 use Rattle.order.proofs.Counts.{count-map, count-same, countBelow-le, countBelow-none, countBelow-list, all-getD}
 use Rattle.order.proofs.Lists.{tabulate-length, tabulate-getD}
 use Rattle.order.proofs.Rows.{Sound, soundRow, sound-length}
-use Rattle.columns.specs.Columns.{Columns, size, _∩_, within, columnsOf}
+use Rattle.columns.specs.Columns.{Columns, size, _∩_, within, inSet, columnsOf}
 use Rattle.columns.proofs.Sets.{has, _⊆_, ⊆-by, length-∩, has-∩, size-test}
 use Rattle.method.specs.Method.{kMax, criticalValue}
 use Rattle.method.proofs.Critical.{kMax-law, criticalValue-law}
@@ -34,6 +35,7 @@ use Rattle.runs.specs.declared.Verdict.{Verdict}
 use Rattle.runs.specs.declared.Verdict.the-variants.{Kept}
 use Rattle.runs.proofs.Steps.{rejected-length}
 use Rattle.runs.proofs.Start.{first-empty}
+use Rattle.runs.proofs.Told.{verdicts-length, rejected-told}
 use Rattle.control.proofs.OneRun.{aboveKey, aboveKey-length, rejected-above, Held}
 use Rattle.control.specs.Statements.{rejectedAmong, runsThatReject}
 
@@ -59,14 +61,6 @@ above-size K v row = size-test (λ x. ltb v (key x)) K row
 abbrev verdicts : ℕ → ℕ → ℕ → List (List Float) → ℕ → ℕ → ℕ → List Verdict
 verdicts m n live Y k e o = fullRun Y (firstState m n k e o live) .verdicts
 
-verdicts-length : (m n live : ℕ) (Y : List (List Float)) (k e o : ℕ) → length (verdicts m n live Y k e o) ≡ n
-unfolding fullRun
-verdicts-length m n live Y k e o = tabulate-length n (λ j. verdictOf (stepsOf Y (firstState m n k e o live)) j)
-
-verdict-is : (m n live : ℕ) (Y : List (List Float)) (k e o j : ℕ) → j < n → getD (verdicts m n live Y k e o) j (Kept plusZero) ≡ verdictOf (stepsOf Y (firstState m n k e o live)) j
-unfolding fullRun
-verdict-is m n live Y k e o j h = tabulate-getD n (λ j. verdictOf (stepsOf Y (firstState m n k e o live)) j) j (Kept plusZero) h
-
 module _ (n : ℕ) (idle : ℕ → Bool) where
   -- the idle columns as a set
   abbrev K : Columns
@@ -84,7 +78,7 @@ module _ (n : ℕ) (idle : ℕ → Bool) where
 
     -- no more idle columns are rejected than there are
     few-idle : rejectedAmong idle (verdicts m n live Y k e o) ≤ size K
-    few-idle = rejected-within n idle (verdicts m n live Y k e o) K (verdicts-length m n live Y k e o) K-length (λ j h t u. in-K j h t)
+    few-idle = rejected-within n idle (verdicts m n live Y k e o) K (verdicts-length Y start) K-length (λ j h t u. in-K j h t)
 
     module _ (sound : Sound n Y) (sub : K ⊆ liveSet start) (pos : 0 < k) (seen : o < length Y)
         (rare : e < length Y) (wide : k ≤ size K) (v : ℕ) (low : v ≤ key (criticalValue k e Y K)) where
@@ -108,9 +102,12 @@ module _ (n : ℕ) (idle : ℕ → Bool) where
           nothing = ⊆-by (K ∩ rejectedSet start) (K ∩ aboveKey v obs) (length-∩ K (rejectedSet start) short ∙ sym (length-∩ K (aboveKey v obs) even))
               (λ j t. absurd (subst (λ (c : Bool). T c) (first-empty m n k e o live j) (and-right (has K j) (has (rejectedSet start) j) (subst (λ (c : Bool). T c) (has-∩ K (rejectedSet start) short j) t))))
 
+      told-right : (j : ℕ) → j < n → T (isRejected (getD (verdicts m n live Y k e o) j (Kept plusZero))) → T (isRejected (verdictOf (stepsOf Y start) j))
+      told-right j h u = and-right (inSet live j) (isRejected (verdictOf (stepsOf Y start) j)) (subst (λ (c : Bool). T c) (rejected-told Y start j h (Kept plusZero)) u)
+
       above-all : size (K ∩ aboveKey v obs) < k → rejectedAmong idle (verdicts m n live Y k e o) ≤ size (K ∩ aboveKey v obs)
-      above-all few = rejected-within n idle (verdicts m n live Y k e o) (K ∩ aboveKey v obs) (verdicts-length m n live Y k e o) (length-∩ K (aboveKey v obs) even ∙ K-length)
-          (λ j h t u. rejected-above Y K v obs start (held few) j (in-K j h t) (subst (λ (w : Verdict). T (isRejected w)) (verdict-is m n live Y k e o j h) u))
+      above-all few = rejected-within n idle (verdicts m n live Y k e o) (K ∩ aboveKey v obs) (verdicts-length Y start) (length-∩ K (aboveKey v obs) even ∙ K-length)
+          (λ j h t u. rejected-above Y K v obs start (held few) j (in-K j h t) (told-right j h u))
 
       -- where k or more idle columns are rejected, k idle values of the observed row are above v
       bad-above : k ≤ rejectedAmong idle (verdicts m n live Y k e o) → k ≤ count (λ x. ltb v (key x)) (within K (getD Y o []))
@@ -228,11 +225,39 @@ module _ {n k e M : ℕ} {X : List (List Float)} {idle : ℕ → Bool} {live : �
             countBelow-none (length X),
           )
 
--- runs that show the same verdicts are counted alike
-pub counted : (k n e : ℕ) (idle : ℕ → Bool) (vs ws : ℕ → List Verdict) → ((g : ℕ) → g < n → vs g ≡ ws g) → runsThatReject k n idle ws ≤ e → runsThatReject k n idle vs ≤ e
+-- runs that reject no more idle columns are counted no more
+pub counted-by : (k n e : ℕ) (idle idle′ : ℕ → Bool) (vs ws : ℕ → List Verdict) → ((g : ℕ) → g < n → rejectedAmong idle (vs g) ≤ rejectedAmong idle′ (ws g)) → runsThatReject k n idle′ ws ≤ e → runsThatReject k n idle vs ≤ e
 unfolding runsThatReject
-counted k n e idle vs ws h bound =
+counted-by k n e idle idle′ vs ws h bound =
     omega (
       arith,
-      countBelow-le n (λ g. leb k (rejectedAmong idle (vs g))) (λ g. leb k (rejectedAmong idle (ws g))) (λ g l t. subst (λ (x : List Verdict). T (leb k (rejectedAmong idle x))) (h g l) t),
+      countBelow-le n (λ g. leb k (rejectedAmong idle (vs g))) (λ g. leb k (rejectedAmong idle′ (ws g)))
+          (λ g l t. le→leb k (rejectedAmong idle′ (ws g)) (omega (arith, leb→le k (rejectedAmong idle (vs g)) t, h g l))),
     )
+
+-- so are those that show the same verdicts
+pub counted : (k n e : ℕ) (idle : ℕ → Bool) (vs ws : ℕ → List Verdict) → ((g : ℕ) → g < n → vs g ≡ ws g) → runsThatReject k n idle ws ≤ e → runsThatReject k n idle vs ≤ e
+counted k n e idle vs ws h = counted-by k n e idle idle vs ws (λ g l. omega (arith, ap (rejectedAmong idle) (h g l)))
+
+-- ---- idle columns that are set aside
+
+-- what is rejected is live, so that only the idle columns that are live count
+live-only : (m n live : ℕ) (Y : List (List Float)) (k e o : ℕ) (idle tested : ℕ → Bool) → ((j : ℕ) → j < n → T (idle j) → T (inSet live j) → T (tested j))
+    → rejectedAmong idle (verdicts m n live Y k e o) ≤ rejectedAmong (λ j. idle j && tested j) (verdicts m n live Y k e o)
+unfolding rejectedAmong
+live-only m n live Y k e o idle tested h =
+    let s = firstState m n k e o live in
+    let vs = verdicts m n live Y k e o in
+    let rejected : ℕ → Bool = λ j. isRejected (getD vs j (Kept plusZero)) in
+    countBelow-le (length vs) (λ j. idle j && rejected j) (λ j. (idle j && tested j) && rejected j)
+    (λ j l t. let i = and-left (idle j) (rejected j) t in
+    let u = and-right (idle j) (rejected j) t in
+    let q : j < n = omega (arith, verdicts-length Y s) in
+    and-both (idle j && tested j) (rejected j)
+    (and-both (idle j) (tested j) i (h j q i (and-left (inSet live j) (isRejected (verdictOf (stepsOf Y s) j)) (subst (λ (c : Bool). T c) (rejected-told Y s j q (Kept plusZero)) u)))) u)
+
+pub general-aside : {n k e M : ℕ} {X : List (List Float)} {live : ℕ → ℕ} {Y : ℕ → List (List Float)} {o : ℕ → ℕ} (idle tested : ℕ → Bool)
+    → ((g : ℕ) → g < M → (j : ℕ) → j < n → T (idle j) → T (inSet (live g) j) → T (tested j)) → Family n k e M X (λ j. idle j && tested j) live Y o
+    → runsThatReject k M idle (λ g. fullRun (Y g) (firstState M n k e (o g) (live g)) .verdicts) ≤ e
+general-aside {n} {k} {e} {M} {live = live} {Y = Y} {o = o} idle tested h f =
+    counted-by k M e idle (λ j. idle j && tested j) _ _ (λ g l. live-only M n (live g) (Y g) k e (o g) idle tested (h g l)) (general f)

@@ -1,44 +1,47 @@
--- Demand 3 for trials: on the idle offers, row h of run g is the row of the trial that `moved` tells.
+-- Demand 3 for trials: on the idle offers, row h of run g is the row of the trial that `moved` tells. An idle offer is set aside in all runs or in none, and
+-- what is set aside is never rejected; the other offers may be set aside in some runs and not in others.
+--   idle-alike          an idle offer is set aside in run g exactly where it is in the trial
 --   same-total          trials that keep all but the differences have as many rows
 --   trials              for full runs of trials whose idle offers are listed
 --   balanced-trials     for balanced full runs of such trials
 use Prim.Native.Nat.{ℕ, _^_, _≤_, _<_}
 use native.Mathlib.Omega.{arith}
-use mathlib.Core.Path.{_≡_, sym, ap, ap₂, _∙_, subst}
-use mathlib.Core.Bool.{Bool, false}
+use mathlib.Core.Path.{_≡_, refl, sym, ap, ap₂, _∙_, subst}
+use mathlib.Core.Bool.{Bool, false, not, _&&_}
 use mathlib.Core.List.{List, []}
 use lib.ListN.{length, getD}
 use lib.Dec.{T}
 use lib.IntN.{ℤ}
 use lib.Ieee.{Float, nan, binary64, ofInt}
 use Rattle.order.specs.Lists.{tabulate}
+use Rattle.order.proofs.Booleans.{and-left, and-right}
 use Rattle.order.proofs.Keys.{key}
-use Rattle.order.proofs.Lists.{getD-map, tabulate-getD, rowsOf-length}
+use Rattle.order.proofs.Lists.{getD-map, tabulate-length, tabulate-getD, rowsOf-length}
 use Rattle.order.proofs.Rows.{Sound}
 use Rattle.refusals.specs.Limits.{allowance}
 use Rattle.refusals.proofs.Limits.{allowance-lt}
-use Rattle.columns.specs.Columns.{fullMask}
-use Rattle.runs.specs.Stepdown.{Outcome, fullRun}
-use Rattle.runs.specs.Tables.{tableStart, tableRun}
-use Rattle.runs.specs.declared.State.{State}
-use Rattle.trial.specs.Designs.{unitsOf, rowCount, entryOf}
+use Rattle.columns.specs.Columns.{inSet, columnsOf}
+use Rattle.columns.proofs.Sets.{has, has-length, _⊆_, ⊆-by}
+use Rattle.columns.proofs.Masks.{columnsOf-length, has-columnsOf}
+use Rattle.runs.specs.Stepdown.{firstState, Outcome, fullRun}
+use Rattle.trial.specs.Aside.{liveOffers, liveMask}
+use Rattle.trial.specs.Designs.{unitsOf, rowCount, entryOf, untested}
 use Rattle.trial.specs.Record.{figuresOf, Setting, Keeps}
-use Rattle.trial.specs.Exchange.{byOffer, rowTotal, rowOf, trialRows, tableOf}
+use Rattle.trial.specs.Exchange.{byOffer, rowTotal, rowOf, trialRows}
 use Rattle.trial.specs.Refusals.{trialRefusal}
 use Rattle.trial.specs.declared.Design.{Design}
 use Rattle.trial.specs.declared.Shape.{Shape}
 use Rattle.trial.specs.declared.Trial.{Trial}
 use Rattle.trial.proofs.Accepted.{Accepted, accepted}
-use Rattle.trial.proofs.Tables.{rowOf-length, trialRows-length, trialRows-row, trialRows-sound, tableOf-rows, tableOf-length, rowTotal-some}
-use Rattle.trialrun.specs.TrialRuns.{trialRun}
+use Rattle.trial.proofs.Aside.{untested-listed, live-at, live-bit}
+use Rattle.trial.proofs.Tables.{rowOf-length, trialRows-length, trialRows-row, trialRows-sound, rowTotal-some}
+use Rattle.trialrun.specs.TrialRuns.{trialStart, trialRun}
 use Rattle.balance.specs.Balance.{balancedRows}
-use Rattle.tablebalance.proofs.Counted.{balancedRun-rows}
 use Rattle.trialbalance.specs.TrialBalance.{trialBalancedRun}
-use Rattle.control.proofs.General.{keysAt, Member, Family, general, counted}
+use Rattle.control.proofs.General.{keysAt, Member, Family, counted, general-aside}
 use Rattle.control.proofs.Balanced.{balanced-family}
 use Rattle.control.proofs.Listings.{moved, moved-back, moved-lt, moved-first, entry-listed}
 use Rattle.control.proofs.Reorder.{keys-same, reordered}
-use Rattle.control.proofs.Tables.{in-all}
 use Rattle.control.specs.Statements.{runsThatReject, figuresAt, ListedOn}
 
 -- ---- an offer of a trial
@@ -55,6 +58,9 @@ module _ (t u : Trial) (g : ℕ) (idle : ℕ → Bool) (keeps : Keeps t u) (list
   shape-kept : u .shape ≡ t .shape
   shape-kept = ap (λ (s : Setting). s .shape) keeps
 
+  design-kept : u .shape .design ≡ t .shape .design
+  design-kept = ap (λ (s : Shape). s .design) shape-kept
+
   offers-kept : u .shape .offers ≡ t .shape .offers
   offers-kept = ap (λ (s : Shape). s .offers) shape-kept
 
@@ -65,34 +71,26 @@ module _ (t u : Trial) (g : ℕ) (idle : ℕ → Bool) (keeps : Keeps t u) (list
       keys-same (tabulate (t .shape .offers) idle) (rowOf u h) (rowOf t r) (rowOf-length u h ∙ offers-kept ∙ sym (rowOf-length t r))
       (λ i l q. let m : i < t .shape .offers = omega (arith, rowOf-length u h, offers-kept) in
       ap key (row-at u h i (omega (arith, rowOf-length u h))
-      ∙ ap (ofInt binary64) (ap₂ (λ (e : Design) (xs : List ℤ). entryOf e h xs) (ap (λ (s : Shape). s .design) shape-kept) (listing i m (subst (λ (b : Bool). T b) (tabulate-getD (t .shape .offers) idle i false m) q)) ∙ entry-listed d h g (figuresAt t i))
+      ∙ ap (ofInt binary64) (ap₂ (λ (e : Design) (xs : List ℤ). entryOf e h xs) design-kept (listing i m (subst (λ (b : Bool). T b) (tabulate-getD (t .shape .offers) idle i false m) q)) ∙ entry-listed d h g (figuresAt t i))
       ∙ sym (row-at t r i m)))
 
+  -- an idle offer is set aside in run g exactly where it is in the trial
+  pub idle-alike : (i : ℕ) → i < t .shape .offers → T (idle i) → untested (u .shape .design) (figuresAt u i) ≡ untested (t .shape .design) (figuresAt t i)
+  idle-alike i l q = ap₂ (λ (d : Design) (xs : List ℤ). untested d xs) design-kept (listing i l q) ∙ untested-listed (t .shape .design) g (figuresAt t i)
+
+  idle-bit : (i : ℕ) → i < t .shape .offers → T (idle i) → inSet (liveMask u) i ≡ has (liveOffers t) i
+  idle-bit i l q = let m : i < u .shape .offers = omega (arith, offers-kept) in live-bit u i m ∙ live-at u i m ∙ ap not (idle-alike i l q) ∙ sym (live-at t i l)
+
 -- ---- the theorem
-
--- the first state of a trial's run
-abbrev startOf : Trial → State
-startOf t = tableStart (rowTotal t) (t .shape .offers) (t .shape .k) (t .level .a) (t .level .b) 0
-
--- the full runs of a trial, by its rows
-trialRun-is : (t : Trial) → trialRun t ≡ fullRun (trialRows t) (startOf t)
-unfolding trialRun tableRun
-trialRun-is t = ap (λ (X : List (List Float)). fullRun X (startOf t)) (tableOf-rows t)
-
-balancedRun-is : (t : Trial) → trialBalancedRun t ≡ fullRun (balancedRows (trialRows t)) (startOf t)
-unfolding trialBalancedRun
-balancedRun-is t =
-    balancedRun-rows (tableOf t) (rowTotal t) (t .shape .offers) (t .shape .k) (t .level .a) (t .level .b) 0 (tableOf-length t)
-    ∙ ap (λ (X : List (List Float)). fullRun (balancedRows X) (startOf t)) (tableOf-rows t)
 
 pub same-total : (t u : Trial) → Keeps t u → rowTotal u ≡ rowTotal t
 unfolding rowTotal
 same-total t u keeps = ap (λ (s : Setting). rowCount (s .shape .design)) keeps
 
--- its first state is that of a trial that it agrees with
-same-start : (t u : Trial) → Keeps t u → startOf u ≡ startOf t
+-- its first state is that of a trial that it agrees with, but for its own live offers
+same-start : (t u : Trial) → Keeps t u → trialStart u ≡ firstState (rowTotal t) (t .shape .offers) (t .shape .k) (allowance (rowTotal t) (t .level .a) (t .level .b)) 0 (liveMask u)
 unfolding rowTotal
-same-start t u keeps = ap (λ (s : Setting). tableStart (rowCount (s .shape .design)) (s .shape .offers) (s .shape .k) (s .level .a) (s .level .b) 0) keeps
+same-start t u keeps = ap (λ (s : Setting). firstState (rowCount (s .shape .design)) (s .shape .offers) (s .shape .k) (allowance (rowCount (s .shape .design)) (s .level .a) (s .level .b)) 0 (liveMask u)) keeps
 
 module _ (t : Trial) (idle : ℕ → Bool) (runs : ℕ → Trial) (ok : trialRefusal t ≡ 0)
     (oks : (g : ℕ) → g < rowTotal t → trialRefusal (runs g) ≡ 0)
@@ -114,15 +112,42 @@ module _ (t : Trial) (idle : ℕ → Bool) (runs : ℕ → Trial) (ok : trialRef
   unfolding rowTotal
   moved-total h g l m = moved-lt d h g l m
 
-  trial-member : (g : ℕ) → g < rowTotal t → Member (t .shape .offers) (trialRows t) idle (fullMask (t .shape .offers)) (trialRows (runs g)) 0 g
+  -- the idle offers that are not set aside: the same in all runs
+  tested : ℕ → Bool
+  tested i = has (liveOffers t) i
+
+  abbrev idle′ : ℕ → Bool
+  idle′ i = idle i && tested i
+
+  still-idle : (g : ℕ) → g < rowTotal t → ListedOn idle′ g t (runs g)
+  still-idle g m i l q = listing g m i l (and-left (idle i) (tested i) q)
+
+  -- an idle offer that is live in run g is live in the trial
+  live-in-all : (g : ℕ) → g < rowTotal t → (i : ℕ) → i < t .shape .offers → T (idle i) → T (inSet (liveMask (runs g)) i) → T (tested i)
+  unfolding tested
+  live-in-all g m i l q r = subst (λ (b : Bool). T b) (idle-bit t (runs g) g idle (keeps g m) (listing g m) i l q) r
+
+  live-in-run : (g : ℕ) → g < rowTotal t → tabulate (t .shape .offers) idle′ ⊆ columnsOf (t .shape .offers) (liveMask (runs g))
+  unfolding tested
+  live-in-run g m =
+      let n = t .shape .offers in
+      let K = tabulate n idle′ in
+      ⊆-by K (columnsOf n (liveMask (runs g))) (tabulate-length n idle′ ∙ sym (columnsOf-length n (liveMask (runs g))))
+      (λ i r. let l : i < n = omega (arith, has-length K i r, tabulate-length n idle′) in
+      let q = subst (λ (b : Bool). T b) (tabulate-getD n idle′ i false l) r in
+      subst (λ (b : Bool). T b)
+      (sym (has-columnsOf n (liveMask (runs g)) i l ∙ idle-bit t (runs g) g idle (keeps g m) (listing g m) i l (and-left (idle i) (tested i) q)))
+      (and-right (idle i) (tested i) q))
+
+  trial-member : (g : ℕ) → g < rowTotal t → Member (t .shape .offers) (trialRows t) idle′ (liveMask (runs g)) (trialRows (runs g)) 0 g
   trial-member g m = record {
     sound = subst (λ (n : ℕ). Sound n (trialRows u)) (ap (λ (s : Setting). s .shape .offers) (keeps g m)) (trialRows-sound u (accepted u (oks g m)));
     tall = own ∙ sym tall;
-    lives = in-all (t .shape .offers) idle;
+    lives = live-in-run g m;
     seen = omega (arith, own, rowTotal-some t);
-    rows = reordered (trialRows t) (trialRows u) (tabulate (t .shape .offers) idle) (λ h. moved d h g) (λ h. moved d h g) (own ∙ sym tall)
+    rows = reordered (trialRows t) (trialRows u) (tabulate (t .shape .offers) idle′) (λ h. moved d h g) (λ h. moved d h g) (own ∙ sym tall)
         (λ i r. omega (arith, tall, moved-total i g (omega (arith, tall)) m)) (λ i r. moved-back d i g) (λ h r. at-row h (omega (arith, tall)));
-    row = at-row 0 (rowTotal-some t) ∙ ap (λ (h : ℕ). keysAt (tabulate (t .shape .offers) idle) (getD (trialRows t) h [])) (moved-first d g);
+    row = at-row 0 (rowTotal-some t) ∙ ap (λ (h : ℕ). keysAt (tabulate (t .shape .offers) idle′) (getD (trialRows t) h [])) (moved-first d g);
   }
     where
       u : Trial
@@ -131,13 +156,13 @@ module _ (t : Trial) (idle : ℕ → Bool) (runs : ℕ → Trial) (ok : trialRef
       own : length (trialRows u) ≡ rowTotal t
       own = trialRows-length u ∙ same-total t u (keeps g m)
 
-      at-row : (h : ℕ) → h < rowTotal t → keysAt (tabulate (t .shape .offers) idle) (getD (trialRows u) h []) ≡ keysAt (tabulate (t .shape .offers) idle) (getD (trialRows t) (moved d h g) [])
+      at-row : (h : ℕ) → h < rowTotal t → keysAt (tabulate (t .shape .offers) idle′) (getD (trialRows u) h []) ≡ keysAt (tabulate (t .shape .offers) idle′) (getD (trialRows t) (moved d h g) [])
       at-row h r =
-          ap (keysAt (tabulate (t .shape .offers) idle)) (trialRows-row u h (omega (arith, same-total t u (keeps g m))))
-          ∙ idle-row t u g idle (keeps g m) (listing g m) h
-          ∙ ap (keysAt (tabulate (t .shape .offers) idle)) (sym (trialRows-row t (moved d h g) (moved-total h g r m)))
+          ap (keysAt (tabulate (t .shape .offers) idle′)) (trialRows-row u h (omega (arith, same-total t u (keeps g m))))
+          ∙ idle-row t u g idle′ (keeps g m) (still-idle g m) h
+          ∙ ap (keysAt (tabulate (t .shape .offers) idle′)) (sym (trialRows-row t (moved d h g) (moved-total h g r m)))
 
-  trial-family : Family (t .shape .offers) (t .shape .k) e (rowTotal t) (trialRows t) idle (λ _. fullMask (t .shape .offers)) (λ g. trialRows (runs g)) (λ _. 0)
+  trial-family : Family (t .shape .offers) (t .shape .k) e (rowTotal t) (trialRows t) idle′ (λ g. liveMask (runs g)) (λ g. trialRows (runs g)) (λ _. 0)
   trial-family = record {
     sound = trialRows-sound t acc;
     tall = tall;
@@ -151,15 +176,17 @@ module _ (t : Trial) (idle : ℕ → Bool) (runs : ℕ → Trial) (ok : trialRef
   few = omega (arith, acc .laid .rows-most)
 
   -- runs of trials, by their rows
-  by-rows : (B : List (List Float) → List (List Float)) (out : Trial → Outcome) → ((u : Trial) → out u ≡ fullRun (B (trialRows u)) (startOf u))
-      → Family (t .shape .offers) (t .shape .k) e (rowTotal t) (B (trialRows t)) idle (λ _. fullMask (t .shape .offers)) (λ g. B (trialRows (runs g))) (λ _. 0)
+  by-rows : (B : List (List Float) → List (List Float)) (out : Trial → Outcome) → ((u : Trial) → out u ≡ fullRun (B (trialRows u)) (trialStart u))
+      → Family (t .shape .offers) (t .shape .k) e (rowTotal t) (B (trialRows t)) idle′ (λ g. liveMask (runs g)) (λ g. B (trialRows (runs g))) (λ _. 0)
       → runsThatReject (t .shape .k) (rowTotal t) idle (λ g. out (runs g) .verdicts) ≤ e
   by-rows B out is family =
       counted (t .shape .k) (rowTotal t) e idle _ _ (λ g l. ap (λ (r : Outcome). r .verdicts) (is (runs g) ∙ ap (fullRun (B (trialRows (runs g)))) (same-start t (runs g) (keeps g l))))
-      (general family)
+      (general-aside idle tested live-in-all family)
 
   pub trials : runsThatReject (t .shape .k) (rowTotal t) idle (λ g. trialRun (runs g) .verdicts) ≤ e
-  trials = by-rows (λ X. X) trialRun trialRun-is trial-family
+  unfolding trialRun
+  trials = by-rows (λ X. X) trialRun (λ _. refl) trial-family
 
   pub balanced-trials : runsThatReject (t .shape .k) (rowTotal t) idle (λ g. trialBalancedRun (runs g) .verdicts) ≤ e
-  balanced-trials = by-rows balancedRows trialBalancedRun balancedRun-is (balanced-family few trial-family)
+  unfolding trialBalancedRun
+  balanced-trials = by-rows balancedRows trialBalancedRun (λ _. refl) (balanced-family few trial-family)

@@ -1,5 +1,6 @@
 -- The full run that a trace makes, column by column.
---   partialRun        with all counts and the verdicts of the first j columns
+--   count             a column's count, by the place of its observed value in the table
+--   partialRun        with the verdicts and counts of the first j columns
 --   trace-verdict     a verdict read off the trace of steps is the verdict of those steps
 --   counted-can       the first state can be stepped where k or more columns are live
 --   full-is           what the steps make is the full run
@@ -8,57 +9,75 @@ use native.Mathlib.Omega.{arith}
 use mathlib.Core.Path.{_≡_, refl, sym, ap, ap₂, _∙_, subst}
 use mathlib.Core.Bool.{Bool, false, cond}
 use mathlib.Core.List.{List, [], _∷_, _++_, map}
-use lib.ListN.{length, getD, drop, set, replicate, length-map}
+use lib.ListN.{length, getD, drop, set, replicate, length-map, List·getD-append}
 use lib.Seq.{take-at}
 use lib.Dec.{T, ltb}
 use lib.Pow.{pow-pos}
 use lib.Ieee.{Float, nan}
 use Rattle.order.specs.Order.{plusZero}
 use Rattle.order.specs.Lists.{tabulate, rowsOf, padded}
-use Rattle.order.proofs.Lists.{map-more, tabulate-length, tabulate-same, tabulate-more, padded-length, set-padded, row-entry}
+use Rattle.order.proofs.Lists.{map-more, tabulate-length, tabulate-getD, tabulate-same, tabulate-more, padded-length, set-padded, row-entry}
 use Rattle.refusals.specs.Buffers.{cleared}
 use Rattle.columns.specs.Columns.{size, inSet, columnsOf}
 use Rattle.method.specs.Method.{atLeast}
-use Rattle.runs.specs.Stepdown.{firstState, stepsOf, verdictFrom, verdictOf, fullRun}
+use Rattle.runs.specs.Stepdown.{firstState, stepsOf, verdictFrom, verdictOf, verdictAt, countAt, fullRun}
 use Rattle.runs.specs.FullRuns.{noRecord, decision, refusedRun, acceptedRun}
 use Rattle.runs.specs.declared.State.{State}
 use Rattle.runs.specs.declared.Record.{Record}
 use Rattle.runs.specs.declared.Step.{Step}
 use Rattle.runs.specs.declared.Verdict.{Verdict}
-use Rattle.runs.specs.declared.Verdict.the-variants.{Rejected, Kept}
+use Rattle.runs.specs.declared.Verdict.the-variants.{Rejected, Kept, Aside}
 use Rattle.runs.specs.declared.Decision.{Decision}
 use Rattle.runs.specs.declared.FullRun.{FullRun}
 use Rattle.runs.proofs.Start.{first-empty, first-left, first-open}
 use Rattle.runs.proofs.Termination.{steps-few}
 use Rattle.masks.specs.Internal.{CheckedTable}
-use Rattle.engine.specs.Internal.{CanStep, Traced, traceOf, verdictOver, verdictIn, finishedRun}
+use Rattle.engine.specs.Internal.{CanStep, Traced, traceOf, verdictOver, verdictIn, toldIn, finishedRun}
 use Rattle.engine.specs.declared.tracing.Trace.{Trace}
 
-module _ (t : Trace) (table : List Float) (rows columns e observed : ℕ) where
+module _ (t : Trace) (table : List Float) (rows columns e observed live : ℕ) where
+  abbrev pub count : ℕ → ℕ
+  count i = atLeast (rowsOf rows columns table) (getD table (observed * columns + i) nan) i
+
   verdicts : ℕ → List Decision
-  verdicts j = map decision (tabulate j (λ i. verdictIn t i))
+  verdicts j = map decision (tabulate j (λ i. toldIn live t i))
+
+  counts : ℕ → List ℕ
+  counts j = tabulate j (λ i. cond (inSet live i) (count i) 0)
 
   pub partialRun : ℕ → FullRun
-  partialRun j = record { refusal = 0; rows = rows; e = e; steps = t .steps; records = t .records; decisions = padded 32 (decision (Kept plusZero)) (verdicts j); counts = padded 32 0 (tabulate columns (λ i. atLeast (rowsOf rows columns table) (getD table (observed * columns + i) nan) i)) }
+  partialRun j = record { refusal = 0; rows = rows; e = e; steps = t .steps; records = t .records; decisions = padded 32 (decision (Kept plusZero)) (verdicts j); counts = padded 32 0 (counts j) }
 
-  pub partial-start : (r : FullRun) (cs : List ℕ) → r ≡ refusedRun 0 → cs ≡ padded 32 0 (tabulate columns (λ i. atLeast (rowsOf rows columns table) (getD table (observed * columns + i) nan) i))
-      → record { refusal = r .refusal; rows = rows; e = e; steps = t .steps; records = t .records; decisions = r .decisions; counts = cs } ≡ partialRun 0
-  unfolding partialRun verdicts tabulate
-  partial-start r cs q p = ap₂ (λ (x : FullRun) (y : List ℕ). record { refusal = x .refusal; rows = rows; e = e; steps = t .steps; records = t .records; decisions = x .decisions; counts = y }) q p
+  pub partial-start : (r : FullRun) → r ≡ refusedRun 0
+      → record { refusal = r .refusal; rows = rows; e = e; steps = t .steps; records = t .records; decisions = r .decisions; counts = r .counts } ≡ partialRun 0
+  unfolding partialRun verdicts counts tabulate
+  partial-start r q = ap (λ (x : FullRun). record { refusal = x .refusal; rows = rows; e = e; steps = t .steps; records = t .records; decisions = x .decisions; counts = x .counts }) q
 
-  pub partial-turn : (j : ℕ) (f : FullRun) (v : Verdict) → j < 32 → f ≡ partialRun j → v ≡ verdictIn t j
-      → record { refusal = f .refusal; rows = f .rows; e = f .e; steps = f .steps; records = f .records; decisions = set (f .decisions) j (record { verdict = v }); counts = f .counts } ≡ partialRun (j + 1)
-  unfolding partialRun verdicts
-  partial-turn j f v h w p =
-      ap (λ (x : FullRun). record { refusal = x .refusal; rows = x .rows; e = x .e; steps = x .steps; records = x .records; decisions = set (x .decisions) j (record { verdict = v }); counts = x .counts }) w
-      ∙ ap (λ (ds : List Decision). record { refusal = 0; rows = rows; e = e; steps = t .steps; records = t .records; decisions = ds; counts = padded 32 0 (tabulate columns (λ i. atLeast (rowsOf rows columns table) (getD table (observed * columns + i) nan) i)) }) js
-    where
-      js : set (padded 32 (decision (Kept plusZero)) (map decision (tabulate j (λ i. verdictIn t i)))) j (decision v) ≡ padded 32 (decision (Kept plusZero)) (map decision (tabulate (j + 1) (λ i. verdictIn t i)))
-      js = set-padded 32 (decision (Kept plusZero)) (map decision (tabulate j (λ i. verdictIn t i))) j (decision v) (length-map (tabulate j (λ i. verdictIn t i)) decision ∙ tabulate-length j (λ i. verdictIn t i)) h
-          ∙ ap (padded 32 (decision (Kept plusZero))) (ap (λ (w : Verdict). map decision (tabulate j (λ i. verdictIn t i)) ++ (decision w ∷ [])) p ∙ sym (map-more decision (tabulate j (λ i. verdictIn t i)) (verdictIn t j)) ∙ ap (map decision) (sym (tabulate-more j (λ i. verdictIn t i))))
+  module _ (j : ℕ) (f : FullRun) (v : Verdict) (cs : List ℕ) (n : ℕ) (h : j < 32) (l : j < columns) (w : f ≡ partialRun j) (p : v ≡ toldIn live t j) (r : cs ≡ padded 32 0 (tabulate columns count)) where
+    verdicts-turn : set (padded 32 (decision (Kept plusZero)) (verdicts j)) j (decision v) ≡ padded 32 (decision (Kept plusZero)) (verdicts (j + 1))
+    unfolding verdicts
+    verdicts-turn =
+        set-padded 32 (decision (Kept plusZero)) (verdicts j) j (decision v) (length-map (tabulate j (λ i. toldIn live t i)) decision ∙ tabulate-length j (λ i. toldIn live t i)) h
+        ∙ ap (padded 32 (decision (Kept plusZero))) (ap (λ (w : Verdict). map decision (tabulate j (λ i. toldIn live t i)) ++ (decision w ∷ [])) p ∙ sym (map-more decision (tabulate j (λ i. toldIn live t i)) (toldIn live t j)) ∙ ap (map decision) (sym (tabulate-more j (λ i. toldIn live t i))))
 
-  pub partial-end : (j : ℕ) (f : FullRun) → j ≤ columns → columns ≤ j → f ≡ partialRun j → f ≡ finishedRun t table rows columns e observed
-  unfolding partialRun verdicts finishedRun
+    counted-here : getD cs j 0 ≡ count j
+    counted-here = ap (λ (ns : List ℕ). getD ns j 0) r ∙ List·getD-append (tabulate columns count) (replicate (32 - length (tabulate columns count)) 0) 0 j (omega (arith, tabulate-length columns count)) ∙ tabulate-getD columns count j 0 l
+
+    counts-turn : n ≡ cond (inSet live j) (getD cs j 0) 0 → set (padded 32 0 (counts j)) j n ≡ padded 32 0 (counts (j + 1))
+    unfolding counts
+    counts-turn q =
+        set-padded 32 0 (counts j) j n (tabulate-length j (λ i. cond (inSet live i) (count i) 0)) h
+        ∙ ap (padded 32 0) (ap (λ (m : ℕ). counts j ++ (m ∷ [])) (q ∙ ap (λ (m : ℕ). cond (inSet live j) m 0) counted-here) ∙ sym (tabulate-more j (λ i. cond (inSet live i) (count i) 0)))
+
+    pub partial-turn : n ≡ cond (inSet live j) (getD cs j 0) 0
+        → record { refusal = f .refusal; rows = f .rows; e = f .e; steps = f .steps; records = f .records; decisions = set (f .decisions) j (record { verdict = v }); counts = set (f .counts) j n } ≡ partialRun (j + 1)
+    unfolding partialRun
+    partial-turn q =
+        ap (λ (x : FullRun). record { refusal = x .refusal; rows = x .rows; e = x .e; steps = x .steps; records = x .records; decisions = set (x .decisions) j (record { verdict = v }); counts = set (x .counts) j n }) w
+        ∙ ap₂ (λ (ds : List Decision) (ns : List ℕ). record { refusal = 0; rows = rows; e = e; steps = t .steps; records = t .records; decisions = ds; counts = ns }) verdicts-turn (counts-turn q)
+
+  pub partial-end : (j : ℕ) (f : FullRun) → j ≤ columns → columns ≤ j → f ≡ partialRun j → f ≡ finishedRun t table rows columns e observed live
+  unfolding partialRun verdicts counts finishedRun
   partial-end j f a b w = let q : j ≡ columns = omega arith in w ∙ ap partialRun q
 
 -- ---- the trace of steps
@@ -103,7 +122,7 @@ module _ (table : List Float) (rows columns k e observed live : ℕ) where
     left = omega (arith, first-left rows columns k e observed live, first-open rows columns k e observed live on, ready .k-some);
   }
 
-  finished-is : observed < rows → finishedRun (traceOf (stepsOf (rowsOf rows columns table) start)) table rows columns e observed ≡ acceptedRun (fullRun (rowsOf rows columns table) start)
+  finished-is : observed < rows → finishedRun (traceOf (stepsOf (rowsOf rows columns table) start)) table rows columns e observed live ≡ acceptedRun (fullRun (rowsOf rows columns table) start)
   unfolding finishedRun acceptedRun fullRun traceOf
   finished-is h = λ i. record {
     refusal = 0;
@@ -115,12 +134,12 @@ module _ (table : List Float) (rows columns k e observed live : ℕ) where
     counts = padded 32 0 (cs i);
   }
     where
-      vs : tabulate columns (λ j. verdictIn (traceOf ss) j) ≡ tabulate columns (λ j. verdictOf ss j)
-      vs = tabulate-same columns (λ j. verdictIn (traceOf ss) j) (λ j. verdictOf ss j) (λ j l. trace-verdict ss j)
+      vs : tabulate columns (λ j. toldIn live (traceOf ss) j) ≡ tabulate columns (λ j. verdictAt start ss j)
+      vs = tabulate-same columns (λ j. toldIn live (traceOf ss) j) (λ j. verdictAt start ss j) (λ j l. ap (λ (v : Verdict). cond (inSet live j) v Aside) (trace-verdict ss j))
 
-      cs : tabulate columns (λ j. atLeast (rowsOf rows columns table) (getD table (observed * columns + j) nan) j) ≡ tabulate columns (λ j. atLeast (rowsOf rows columns table) (getD (getD (rowsOf rows columns table) observed []) j nan) j)
-      cs = tabulate-same columns (λ j. atLeast (rowsOf rows columns table) (getD table (observed * columns + j) nan) j) (λ j. atLeast (rowsOf rows columns table) (getD (getD (rowsOf rows columns table) observed []) j nan) j)
-          (λ j l. ap (λ (v : Float). atLeast (rowsOf rows columns table) v j) (sym (row-entry table rows columns observed j nan h l)))
+      cs : tabulate columns (λ j. cond (inSet live j) (atLeast (rowsOf rows columns table) (getD table (observed * columns + j) nan) j) 0) ≡ tabulate columns (λ j. countAt (rowsOf rows columns table) start j)
+      cs = tabulate-same columns (λ j. cond (inSet live j) (atLeast (rowsOf rows columns table) (getD table (observed * columns + j) nan) j) 0) (λ j. countAt (rowsOf rows columns table) start j)
+          (λ j l. ap (λ (v : Float). cond (inSet live j) (atLeast (rowsOf rows columns table) v j) 0) (sym (row-entry table rows columns observed j nan h l)))
 
   -- the same state, its live columns counted as n
   module _ (n : ℕ) (c : n ≡ size (columnsOf columns live)) where
@@ -136,8 +155,8 @@ module _ (table : List Float) (rows columns k e observed live : ℕ) where
     pub counted-traced : (t : Trace) → t ≡ traceOf (stepsOf (rowsOf rows columns table) counted) → Traced t
     counted-traced t q = subst (λ (x : Trace). Traced x) (sym q) (trace-typed (stepsOf (rowsOf rows columns table) counted) (steps-few (rowsOf rows columns table) counted))
 
-    pub full-is : (t : Trace) (f : FullRun) → observed < rows → t ≡ traceOf (stepsOf (rowsOf rows columns table) counted) → f ≡ finishedRun t table rows columns e observed → f ≡ acceptedRun (fullRun (rowsOf rows columns table) start)
-    full-is t f h q p = p ∙ ap (λ (x : Trace). finishedRun x table rows columns e observed) (q ∙ ap (λ (s : State). traceOf (stepsOf (rowsOf rows columns table) s)) counted-is) ∙ finished-is h
+    pub full-is : (t : Trace) (f : FullRun) → observed < rows → t ≡ traceOf (stepsOf (rowsOf rows columns table) counted) → f ≡ finishedRun t table rows columns e observed live → f ≡ acceptedRun (fullRun (rowsOf rows columns table) start)
+    full-is t f h q p = p ∙ ap (λ (x : Trace). finishedRun x table rows columns e observed live) (q ∙ ap (λ (s : State). traceOf (stepsOf (rowsOf rows columns table) s)) counted-is) ∙ finished-is h
 
 -- the work buffer beyond the first rows is as it was, and those are cleared
 pub work-cleared : (rows : ℕ) (work w w′ : List Float) → drop rows w ≡ drop rows work → w′ ≡ cleared rows w → w′ ≡ cleared rows work

@@ -1,3 +1,4 @@
+pub mod LevelRows
 pub mod OneStep
 pub mod ClearedWork
 pub mod Traces

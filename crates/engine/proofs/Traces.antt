@@ -1,5 +1,6 @@
 -- All steps of a run, place by place.
 --   look-..         a verdict read off a trace, step by step
+--   told-live, told-aside     what is told of a column by whether it is live
 use Prim.Native.Nat.{ℕ, _+_, _-_, _/_, _%_, _^_, _≤_, _<_}
 use native.Mathlib.Omega.{arith}
 use native.Mathlib.Numerals.{add-one}
@@ -59,3 +60,11 @@ look-start t j = refl
 
 pub look-end : (t : Trace) (i j : ℕ) (last : Float) (n : ℕ) → Traced t → n ≡ t .steps → n ≤ i → verdictIn t j ≡ lookFrom t i last j → Kept last ≡ verdictIn t j
 look-end t i j last n d e h v = sym (v ∙ ap (λ (rs : List Record). verdictOver last rs (drop i (take (t .steps) (t .sets))) j) (drop-of-length-le (take (t .steps) (t .records)) {i = i} (simp length-take (omega arith))))
+
+-- ---- live columns
+
+pub told-live : {A : Type 0} (live j : ℕ) (v x y : A) → live / 2 ^ j % 2 ≡ 1 → v ≡ x → v ≡ cond (inSet live j) x y
+told-live live j v x y h e = e ∙ sym (ap (λ (b : Bool). cond b x y) (eq-eqb (live / 2 ^ j % 2) 1 h))
+
+pub told-aside : {A : Type 0} (live j : ℕ) (x y : A) → (live / 2 ^ j % 2 ≡ 1 → ⊥) → y ≡ cond (inSet live j) x y
+told-aside live j x y h = sym (ap (λ (b : Bool). cond b x y) (ne-eqb (live / 2 ^ j % 2) 1 h))

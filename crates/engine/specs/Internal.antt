@@ -4,7 +4,8 @@
 --   Traced t             a trace of at most 32 steps, in arrays of 32 places
 --   traceOf ss           the records and rejected sets of steps, in 32 places each
 --   notedAt t i s        a trace with one step more, at place i
---   verdictOver, verdictIn t j     column j's verdict, read off records and sets, and off a trace
+--   verdictOver, verdictIn t j     a live column j's verdict, read off records and sets, and off a trace
+--   toldIn live t j      column j's verdict, one that is not live being set aside
 --   finishedRun          the full run that a trace makes
 use Prim.Native.Nat.{ℕ, _+_, _*_, _^_, _≤_, _<_}
 use mathlib.Core.Path.{_≡_}
@@ -23,7 +24,7 @@ use Rattle.runs.specs.declared.State.{State}
 use Rattle.runs.specs.declared.Step.{Step}
 use Rattle.runs.specs.declared.Record.{Record}
 use Rattle.runs.specs.declared.Verdict.{Verdict}
-use Rattle.runs.specs.declared.Verdict.the-variants.{Rejected, Kept}
+use Rattle.runs.specs.declared.Verdict.the-variants.{Rejected, Kept, Aside}
 use Rattle.runs.specs.declared.FullRun.{FullRun}
 use Rattle.masks.specs.Internal.{CheckedTable}
 use Rattle.engine.specs.declared.tracing.Trace.{Trace}
@@ -65,15 +66,18 @@ verdictOver last (r ∷ rs) (s ∷ ss) j = cond (inSet s j) (Rejected (r .step) 
 unfoldable pub verdictIn : Trace → ℕ → Verdict
 verdictIn t j = verdictOver plusZero (take (t .steps) (t .records)) (take (t .steps) (t .sets)) j
 
-unfoldable pub finishedRun : Trace → List Float → ℕ → ℕ → ℕ → ℕ → FullRun
+abbrev pub toldIn : ℕ → Trace → ℕ → Verdict
+toldIn live t j = cond (inSet live j) (verdictIn t j) Aside
+
+unfoldable pub finishedRun : Trace → List Float → ℕ → ℕ → ℕ → ℕ → ℕ → FullRun
 unfolding verdictIn tabulate atLeast rowsOf
-finishedRun t table rows columns e observed =
+finishedRun t table rows columns e observed live =
     record {
       refusal = 0;
       rows = rows;
       e = e;
       steps = t .steps;
       records = t .records;
-      decisions = padded 32 (decision (Kept plusZero)) (map decision (tabulate columns (λ j. verdictIn t j)));
-      counts = padded 32 0 (tabulate columns (λ j. atLeast (rowsOf rows columns table) (getD table (observed * columns + j) nan) j));
+      decisions = padded 32 (decision (Kept plusZero)) (map decision (tabulate columns (λ j. toldIn live t j)));
+      counts = padded 32 0 (tabulate columns (λ j. cond (inSet live j) (atLeast (rowsOf rows columns table) (getD table (observed * columns + j) nan) j) 0));
     }

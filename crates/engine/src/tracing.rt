@@ -7,15 +7,16 @@ use runs::State;
 use runs::Step;
 use runs::Verdict;
 ghost use mathlib.Core.Path.{_≡_};
-ghost use mathlib.Core.Bool.{false};
+ghost use mathlib.Core.Bool.{false, cond};
 ghost use Prim.Native.Nat.{_<_, _≤_, _^_};
 ghost use lib.ListN.{length, drop};
 ghost use Rattle.order.specs.Lists.{rowsOf};
 ghost use Rattle.refusals.specs.Buffers.{cleared};
 ghost use Rattle.runs.specs.Stepdown.{stepsOf, firstState, fullRun};
 ghost use Rattle.runs.specs.FullRuns.{acceptedRun};
+ghost use Rattle.columns.specs.Columns.{inSet};
 ghost use Rattle.masks.specs.Internal.{CheckedTable};
-ghost use Rattle.engine.specs.Internal.{CanStep, Traced, traceOf, notedAt, verdictIn, finishedRun};
+ghost use Rattle.engine.specs.Internal.{CanStep, Traced, traceOf, notedAt, verdictIn, toldIn, finishedRun};
 
 // The records of the steps taken and the rejected sets after them.
 pub struct Trace {
@@ -65,7 +66,7 @@ fn all_steps(start: State, table: &[f64], work: &mut [f64]) -> Trace
     t
 }
 
-// Column j is rejected by the first step after which it is rejected, or kept with the last critical value.
+// A live column j is rejected by the first step after which it is rejected, or kept with the last critical value.
 fn verdict(t: Trace, j: usize) -> Verdict
     requires { ⌜ Traced t × (j < 32) ⌝ }
     ensures { λ v. ⌜ v ≡ verdictIn t j ⌝ }
@@ -85,6 +86,28 @@ fn verdict(t: Trace, j: usize) -> Verdict
     Verdict::Kept(last)
 }
 
+// Column j's verdict; one that is not live is set aside.
+fn verdict_at(t: Trace, live: u32, j: usize) -> Verdict
+    requires { ⌜ Traced t × (j < 32) ⌝ }
+    ensures { λ v. ⌜ v ≡ toldIn live t j ⌝ }
+{
+    if (live >> j) % 2 == 1 {
+        return verdict(t, j);
+    }
+    Verdict::Aside
+}
+
+// Column j's count n; one that is not live has none.
+fn count_at(n: usize, live: u32, j: usize) -> usize
+    requires { ⌜ j < 32 ⌝ }
+    ensures { λ r. ⌜ r ≡ cond (inSet live j) n 0 ⌝ }
+{
+    if (live >> j) % 2 == 1 {
+        return n;
+    }
+    0
+}
+
 // The full run that a trace makes: M, e, verdicts and counts of the columns.
 fn finish(
     t: Trace,
@@ -94,9 +117,10 @@ fn finish(
     k: usize,
     e: usize,
     observed: usize,
+    live: u32,
 ) -> FullRun
     requires { ⌜ CheckedTable (now table) rows columns k × (observed < rows) × Traced t ⌝ }
-    ensures { λ r. ⌜ r ≡ finishedRun t (now (table .entry)) rows columns e observed ⌝ }
+    ensures { λ r. ⌜ r ≡ finishedRun t (now (table .entry)) rows columns e observed live ⌝ }
 {
     let mut f = runs::refused(0);
     f.rows = rows;
@@ -105,11 +129,11 @@ fn finish(
     let records = t.records;
     f.records = records;
     let counts = critical::at_least(table, rows, columns, k, observed);
-    f.counts = counts;
     let mut j: usize = 0;
     while j < columns {
-        let v = verdict(t, j);
+        let v = verdict_at(t, live, j);
         f.decisions[j] = Decision { verdict: v };
+        f.counts[j] = count_at(counts[j], live, j);
         j += 1;
     }
     f
@@ -144,5 +168,5 @@ pub fn full_run(
     };
     let t = all_steps(start, table, work);
     steps::clear(work, rows);
-    finish(t, table, rows, columns, k, e, observed)
+    finish(t, table, rows, columns, k, e, observed, live)
 }

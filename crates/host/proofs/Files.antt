@@ -1,6 +1,6 @@
 -- Laws of the calls for the verdicts of a file.
---   told-refused, told-short, told-done     each answer of `tell` with its buffer: the run is refused, 12, the steps are written
---   file-tellable, file-told     a file's run, over the trial's table or any in its place: what `tell` requires, and what the call gives
+--   told-refused, told-short, told-done     each answer of `tell` with its buffer: the run is refused, 12, the verdicts are written
+--   file-tellable, file-told     a file's run, over the rows of the trial's table or any in their place: what `tell` requires, and what the call gives
 use Prim.Native.Nat.{ℕ, _+_, _≤_, _<_}
 use native.Mathlib.Omega.{arith}
 use mathlib.Core.Path.{_≡_, refl, sym, ap, _∙_, subst}
@@ -11,22 +11,21 @@ use lib.Ieee.{Float}
 use Rattle.refusals.specs.Answers.{firstRefusal}
 use Rattle.refusals.specs.Buffers.{written}
 use Rattle.refusals.proofs.Answers.{answer-map, first-short}
-use Rattle.runs.specs.Stepdown.{Outcome}
+use Rattle.runs.specs.Stepdown.{Outcome, fullRun}
 use Rattle.runs.specs.FullRuns.{acceptedRun}
-use Rattle.runs.specs.Tables.{tableRun}
 use Rattle.verdicts.specs.Verdicts.{rejectedCount}
-use Rattle.verdicts.specs.Internal.{smallSteps}
-use Rattle.trial.specs.Exchange.{rowTotal}
+use Rattle.verdicts.specs.Internal.{smallBytes}
+use Rattle.verdicts.proofs.StepNumbers.{run-bytes}
 use Rattle.trial.specs.declared.Trial.{Trial}
 use Rattle.trial.proofs.Accepted.{accepted}
 use Rattle.words.specs.Words.{wordsOf}
 use Rattle.trialfile.specs.Files.{trialOf, fileChecks, fileRefusal}
 use Rattle.trialfile.proofs.Taken.{read-accepted}
+use Rattle.trialrun.specs.TrialRuns.{trialStart}
 use Rattle.trialrun.specs.FileRuns.{refusedFile, acceptedBy, fileBy}
 use Rattle.trialrun.specs.declared.FileRun.{FileRun}
-use Rattle.host.specs.Calls.{stepBytes, verdictsAnswer, verdictsBuffer, fileOffers, trialVerdictsChecks}
+use Rattle.host.specs.Calls.{verdictBytes, verdictsAnswer, verdictsBuffer, fileOffers, trialVerdictsChecks}
 use Rattle.host.specs.Internal.{Tellable, Told}
-use Rattle.host.proofs.StepBytes.{table-steps}
 use Rattle.host.proofs.Lent.{given-refused, given-short, given-done}
 use Rattle.refusals.proofs.Answers as answers
 
@@ -39,26 +38,26 @@ module _ (f : FileRun) (buf : List ℕ) where
   abbrev count : ℕ → ℕ
   count n = rejectedCount n (f .run .decisions)
 
-  abbrev steps : ℕ → List ℕ
-  steps n = stepBytes n (f .run .decisions)
+  abbrev told : ℕ → List ℕ
+  told n = verdictBytes n (f .run .decisions)
 
   pub told-refused : (number ≡ 0 → ⊥) → Told f buf (100 + number) buf
-  told-refused z cs n e o = let d = given-refused {A = Unit {0}} cs n (count n) (steps n) buf tt tt number e z in (d .0, d .1)
+  told-refused z cs n e o = let d = given-refused {A = Unit {0}} cs n (count n) (told n) buf tt tt number e z in (d .0, d .1)
 
   module _ (z : number ≡ 0) where
     pub told-short : length buf < f .trial .shape .offers → Told f buf 112 buf
-    told-short h cs n e o = let d = given-short {A = Unit {0}} cs n (count n) (steps n) buf tt tt number e z (omega (arith, o z)) in (d .0, d .1)
+    told-short h cs n e o = let d = given-short {A = Unit {0}} cs n (count n) (told n) buf tt tt number e z (omega (arith, o z)) in (d .0, d .1)
 
-    pub told-done : f .trial .shape .offers ≤ length buf → (r : ℕ) → r ≡ count (f .trial .shape .offers) → (out : List ℕ) → out ≡ written (steps (f .trial .shape .offers)) buf → Told f buf r out
+    pub told-done : f .trial .shape .offers ≤ length buf → (r : ℕ) → r ≡ count (f .trial .shape .offers) → (out : List ℕ) → out ≡ written (told (f .trial .shape .offers)) buf → Told f buf r out
     told-done h r p out q cs n e o =
-        let d = given-done {A = Unit {0}} cs n (count n) (steps n) buf tt tt number e z (omega (arith, o z)) r (p ∙ ap count (o z)) out (q ∙ ap (λ (i : ℕ). written (steps i) buf) (o z)) tt refl in
+        let d = given-done {A = Unit {0}} cs n (count n) (told n) buf tt tt number e z (omega (arith, o z)) r (p ∙ ap count (o z)) out (q ∙ ap (λ (i : ℕ). written (told i) buf) (o z)) tt refl in
         (d .0, d .1)
 
--- ---- a file, whose trial is run over any table
+-- ---- a file, whose trial is run over any rows
 
-module _ (table : Trial → List Float) (bytes : List ℕ) where
+module _ (rows : Trial → List (List Float)) (bytes : List ℕ) where
   abbrev run : Trial → Outcome
-  run t = tableRun (table t) (rowTotal t) (t .shape .offers) (t .shape .k) (t .level .a) (t .level .b) 0
+  run t = fullRun (rows t) (trialStart t)
 
   abbrev read : Trial
   read = trialOf (wordsOf bytes)
@@ -85,7 +84,7 @@ module _ (table : Trial → List Float) (bytes : List ℕ) where
     file-tellable = subst Tellable (sym e) (record {
       short = omega (arith, number-is, first-short (fileChecks bytes));
       few = λ z. omega (arith, offers-are z, accepted read (read-accepted bytes (sym number-is ∙ z)) .offers-most);
-      small = λ z. subst (λ (x : FileRun). T (smallSteps (x .run .decisions))) (sym (taken z)) (table-steps (table read) (rowTotal read) (read .shape .offers) (read .shape .k) (read .level .a) (read .level .b) 0);
+      small = λ z. subst (λ (x : FileRun). T (smallBytes (x .run .decisions))) (sym (taken z)) (run-bytes (rows read) (trialStart read) refl);
     })
 
     pub file-told : (buf : List ℕ) (r : ℕ) (out : List ℕ) → Told f buf r out

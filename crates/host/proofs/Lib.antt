@@ -1,7 +1,7 @@
 pub mod Lent
 pub mod TableCalls
 pub mod Putting
-pub mod StepBytes
+pub mod VerdictBytes
 pub mod Tables
 pub mod Files
 pub mod FigureAnswers

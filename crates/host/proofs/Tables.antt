@@ -1,7 +1,7 @@
 -- Laws of the call for the verdicts of a table.
 --   table-fits               a table's refusal has two digits at most
---   table-known              an accepted table has at most 32 columns, and its steps are small
---   table-short, table-refused, table-done     each answer with its buffers: no byte for each column, another refusal, the steps are written
+--   table-known              an accepted table has at most 32 columns, and its verdicts fit bytes
+--   table-short, table-refused, table-done     each answer with its buffers: no byte for each column, another refusal, the verdicts are written
 use Prim.Native.Nat.{ℕ, _+_, _≤_, _<_}
 use native.Mathlib.Omega.{arith}
 use mathlib.Core.Path.{_≡_, sym, ap, _∙_, subst}
@@ -19,9 +19,9 @@ use Rattle.stepdown.specs.Refusals.{tableChecks, tableRefusal, tableRunChecks, 
 use Rattle.stepdown.specs.Answers.{fullAnswer, fullWork}
 use Rattle.stepdown.proofs.Accepted.{accepted, table-accepted}
 use Rattle.verdicts.specs.Verdicts.{rejectedCount}
-use Rattle.verdicts.specs.Internal.{smallSteps}
-use Rattle.host.specs.Calls.{stepBytes, tableVerdictsAnswer, tableVerdictsWork, tableVerdictsBuffer}
-use Rattle.host.proofs.StepBytes.{table-steps}
+use Rattle.verdicts.specs.Internal.{smallBytes}
+use Rattle.host.specs.Calls.{verdictBytes, tableVerdictsAnswer, tableVerdictsWork, tableVerdictsBuffer}
+use Rattle.host.proofs.VerdictBytes.{table-bytes}
 use Rattle.host.proofs.TableCalls as calls
 use Rattle.refusals.proofs.Answers as answers
 
@@ -53,11 +53,11 @@ module _ (t : List Float) (rows columns k a b observed : ℕ) where
     unfolding fullAnswer
     taken z = e ∙ sym (answers.accepted done refusedRun (ofRun work) (f .refusal) number-is z)
 
-    pub table-known : f .refusal ≡ 0 → (columns ≤ 32) × T (smallSteps (f .decisions))
+    pub table-known : f .refusal ≡ 0 → (columns ≤ 32) × T (smallBytes (f .decisions))
     unfolding tableRunRefusal
     table-known z = (
       table-accepted t rows columns k a b observed work (sym number-is ∙ z) .shaped .columns-most,
-      subst (λ (x : FullRun). T (smallSteps (x .decisions))) (sym (taken z)) (table-steps t rows columns k a b observed),
+      subst (λ (x : FullRun). T (smallBytes (x .decisions))) (sym (taken z)) (table-bytes t rows columns k a b observed),
     )
 
   -- ---- the answers
@@ -73,7 +73,7 @@ module _ (t : List Float) (rows columns k a b observed : ℕ) where
     result = rejectedCount columns (done .decisions)
 
     abbrev bytes : List ℕ
-    bytes = stepBytes columns (done .decisions)
+    bytes = verdictBytes columns (done .decisions)
 
     pub table-short : length buf < columns → (f : FullRun) → f ≡ fullAnswer t rows columns k a b observed 0 → (front : List Float) → front ≡ fullWork t rows columns k a b observed [] → Done (100 + f .refusal) (front ++ work) buf
     unfolding fullWork tableVerdictsAnswer tableVerdictsWork tableVerdictsBuffer
@@ -84,9 +84,9 @@ module _ (t : List Float) (rows columns k a b observed : ℕ) where
       unfolding fullWork tableVerdictsAnswer tableVerdictsWork tableVerdictsBuffer
       table-refused = calls.table-refused own rows columns result bytes work buf (f .refusal) (number-is (length work) f e) w p
 
-      pub table-done : f .refusal ≡ 0 → (out : List ℕ) → out ≡ written (stepBytes columns (f .decisions)) buf → (n : ℕ) → n ≡ rejectedCount columns (f .decisions) → Done n w out
+      pub table-done : f .refusal ≡ 0 → (out : List ℕ) → out ≡ written (verdictBytes columns (f .decisions)) buf → (n : ℕ) → n ≡ rejectedCount columns (f .decisions) → Done n w out
       unfolding fullWork tableVerdictsAnswer tableVerdictsWork tableVerdictsBuffer
       table-done z out o n q =
           let g = taken (length work) f e z in
           calls.table-done own rows columns result bytes work buf (f .refusal) (number-is (length work) f e) w p z h
-          n (q ∙ ap (λ (x : FullRun). rejectedCount columns (x .decisions)) g) out (o ∙ ap (λ (x : FullRun). written (stepBytes columns (x .decisions)) buf) g)
+          n (q ∙ ap (λ (x : FullRun). rejectedCount columns (x .decisions)) g) out (o ∙ ap (λ (x : FullRun). written (verdictBytes columns (x .decisions)) buf) g)

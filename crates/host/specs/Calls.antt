@@ -1,7 +1,7 @@
 -- The calls for hosts written in C: on a trial file (document 01, "Report and C call"), and in the same style on a table. Definitions only.
---   stepBytes n ds           the rejecting steps of the first n verdicts, 0 where one is kept
+--   verdictBytes n ds        the first n verdicts, a byte each (`verdictByte`): the rejecting step, 0 for kept, 255 for set aside (document 02, §4)
 --   verdictsAnswer cs n ds   what a call that tells verdicts returns, refused by the conditions cs or with the verdicts ds of n offers: the number of rejected, or 100 plus the refusal number
---   verdictsBuffer cs n ds buf     its buffer afterwards: the rejecting step of each offer in its first bytes
+--   verdictsBuffer cs n ds buf     its buffer afterwards: the verdict of each offer in its first bytes
 --   fileOffers bytes         how many offers the trial of a file has
 --   trialVerdictsChecks bytes places, trialVerdictsRefusal     of a file and a buffer of so many bytes: what the file is turned away for, then 12
 --   trialVerdictsAnswer bytes places, trialVerdictsBuffer bytes buf     what the call returns, and its buffer afterwards
@@ -14,23 +14,23 @@ use lib.ListN.{length, take}
 use lib.Ieee.{Float}
 use Rattle.refusals.specs.Answers.{Checks, answer, firstRefusal, afterwards}
 use Rattle.refusals.specs.Buffers.{tooShort, written, cleared}
-use Rattle.runs.specs.FullRuns.{acceptedRun, rejectingStep}
+use Rattle.runs.specs.FullRuns.{acceptedRun}
 use Rattle.runs.specs.Tables.{tableRun}
 use Rattle.runs.specs.declared.Decision.{Decision}
 use Rattle.stepdown.specs.Refusals.{tableChecks, tableRunChecks}
-use Rattle.verdicts.specs.Verdicts.{rejectedCount}
+use Rattle.verdicts.specs.Verdicts.{verdictByte, rejectedCount}
 use Rattle.words.specs.Words.{wordsOf}
 use Rattle.trialfile.specs.Files.{trialOf, fileChecks}
 use Rattle.trialrun.specs.FileRuns.{fileRun}
 
-abbrev pub stepBytes : ℕ → List Decision → List ℕ
-stepBytes n ds = map (λ d. rejectingStep (d .verdict)) (take n ds)
+abbrev pub verdictBytes : ℕ → List Decision → List ℕ
+verdictBytes n ds = map (λ d. verdictByte (d .verdict)) (take n ds)
 
 abbrev pub verdictsAnswer : Checks → ℕ → List Decision → ℕ
 verdictsAnswer cs n ds = answer cs (rejectedCount n ds) (λ m. 100 + m)
 
 abbrev pub verdictsBuffer : Checks → ℕ → List Decision → List ℕ → List ℕ
-verdictsBuffer cs n ds buf = afterwards cs (written (stepBytes n ds) buf) buf
+verdictsBuffer cs n ds buf = afterwards cs (written (verdictBytes n ds) buf) buf
 
 -- ---- a file
 

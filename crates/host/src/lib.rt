@@ -10,21 +10,21 @@ ghost use Prim.Native.Nat.{_≤_};
 ghost use lib.Dec.{T};
 ghost use lib.ListN.{length};
 ghost use Rattle.refusals.specs.Buffers.{written};
-ghost use Rattle.host.specs.Calls.{stepBytes, trialVerdictsAnswer, trialVerdictsBuffer, tableVerdictsAnswer, tableVerdictsWork, tableVerdictsBuffer};
+ghost use Rattle.host.specs.Calls.{verdictBytes, trialVerdictsAnswer, trialVerdictsBuffer, tableVerdictsAnswer, tableVerdictsWork, tableVerdictsBuffer};
 ghost use Rattle.host.specs.Internal.{Tellable, Told};
-ghost use Rattle.verdicts.specs.Internal.{smallSteps};
+ghost use Rattle.verdicts.specs.Internal.{smallBytes};
 
-// The rejecting steps of the first n verdicts into the first bytes of a buffer.
-fn put_steps(decisions: [Decision; 32], n: usize, out: &mut [u8])
-    requires { ⌜ (n ≤ 32) × (n ≤ length (now out)) × T (smallSteps decisions) ⌝ }
-    ensures { λ _. ⌜ now (out .exit) ≡ written (stepBytes n decisions) (now (out .entry)) ⌝ }
+// The first n verdicts into the first bytes of a buffer: the rejecting step, 0 for kept, 255 for set aside.
+fn put_verdicts(decisions: [Decision; 32], n: usize, out: &mut [u8])
+    requires { ⌜ (n ≤ 32) × (n ≤ length (now out)) × T (smallBytes decisions) ⌝ }
+    ensures { λ _. ⌜ now (out .exit) ≡ written (verdictBytes n decisions) (now (out .entry)) ⌝ }
 {
     let mut i: usize = 0;
     while i < n {
         let d = decisions[i];
         let v = d.verdict;
-        let step = verdicts::rejecting_step(v);
-        out[i] = step as u8;
+        let byte = verdicts::verdict_byte(v);
+        out[i] = byte as u8;
         i += 1;
     }
 }
@@ -45,12 +45,12 @@ fn tell(answer: FileRun, verdicts: &mut [u8]) -> u32
         return 112;
     }
     let decisions = run.decisions;
-    put_steps(decisions, offers, verdicts);
+    put_verdicts(decisions, offers, verdicts);
     verdicts::rejected_count(decisions, offers) as u32
 }
 
 // Runs the trial of a file. The result is the number of rejected offers, or 100 plus the refusal number.
-// The buffer's first bytes then hold, per offer, the rejecting step or 0; where the call is refused it is unchanged.
+// The buffer's first bytes then hold, per offer, the rejecting step, 0 where it is kept, or 255 where it is set aside; where the call is refused it is unchanged.
 #[no_mangle]
 pub extern "C" fn becardlarder_trial_verdicts(file: &[u8], verdicts: &mut [u8]) -> u32
     ensures { λ r. ⌜ r ≡ trialVerdictsAnswer (now (file .entry)) (length (now (verdicts .entry))) ⌝ }
@@ -90,6 +90,6 @@ pub extern "C" fn becardlarder_table_verdicts(
         return 100 + refusal;
     }
     let decisions = run.decisions;
-    put_steps(decisions, columns, verdicts);
+    put_verdicts(decisions, columns, verdicts);
     verdicts::rejected_count(decisions, columns) as u32
 }

@@ -7,7 +7,7 @@ use lib.ListN.{length, getD, length-append}
 use Rattle.limits.specs.Limits.{digitsMost, stepLineMost, offerLineMost, longestReport}
 use Rattle.runs.specs.declared.Record.{Record}
 use Rattle.runs.specs.declared.Verdict.{Verdict}
-use Rattle.runs.specs.declared.Verdict.the-variants.{Rejected, Kept}
+use Rattle.runs.specs.declared.Verdict.the-variants.{Rejected, Kept, Aside}
 use Rattle.runs.specs.declared.FullRun.{FullRun}
 use Rattle.runs.specs.Stepdown.{Outcome}
 use Rattle.runs.specs.FullRuns.{acceptedRun}
@@ -39,6 +39,7 @@ step-most m = line-most (ascii "step") 4 (omega arith) (number _ (field (decimal
 word-most : (v : Verdict) → length (ascii (verdictWord v)) ≤ 8
 word-most (Rejected s c) = omega arith
 word-most (Kept c) = omega arith
+word-most Aside = omega arith
 
 offer-most : (code digits : ℕ) (v : Verdict) (last n : ℕ) → digits ≤ digitsMost → length (offerLine code digits v last n) ≤ offerLineMost
 offer-most code digits v last n h = line-most (printed digits code) digitsMost (omega (arith, printed-most digits code)) (field (ascii (verdictWord v)) 8 (word-most v) (number (verdictStep last v) (number n line-end)))

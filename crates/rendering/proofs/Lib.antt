@@ -1,4 +1,5 @@
 pub mod ReportLines
+pub mod AsideLines
 pub mod Values
 pub mod PrintableFiles
 pub mod FileTexts

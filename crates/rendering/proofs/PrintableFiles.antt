@@ -1,6 +1,6 @@
 -- What is known of an accepted file, so that its text fits and nothing is cut off.
 --   wholeCents x         the value is a whole number, of cents or a rank, within what f64 holds exactly
---   PrintableRun run     the full run of every accepted trial can be printed; plain-printable, balanced-printable: that of its table and of its balanced table
+--   PrintableRun run     the full run of every accepted trial can be printed; plain-printable, balanced-printable: that of its plain run and of its balanced one
 --   printed-cents, printed-ranks     the printed number is the critical value
 --   trial-printable      an accepted trial with its full run can be printed
 --   printable-file       what the full run of an accepted file answers can be printed
@@ -18,31 +18,29 @@ use lib.Ieee.Back.{positive-back, negative-back}
 use Rattle.limits.specs.Limits.{stepsMost, trialRowsMost}
 use Rattle.order.specs.Order.{plusZero}
 use Rattle.order.specs.Counting.{all}
-use Rattle.order.specs.Lists.{rowsOf}
 use Rattle.order.proofs.Booleans.{and-both, and-left, and-right}
 use Rattle.order.proofs.Counts.{all-getD}
-use Rattle.order.proofs.Lists.{all-tabulate, rowsOf-length}
+use Rattle.order.proofs.Lists.{all-tabulate}
 use Rattle.refusals.specs.Answers.{firstRefusal}
 use Rattle.refusals.proofs.Answers.{answer-map}
 use Rattle.runs.specs.Stepdown.{Outcome, stepsOf, fullRun}
-use Rattle.runs.specs.Tables.{tableStart, tableRun}
 use Rattle.runs.specs.FullRuns.{noRecord, acceptedRun}
 use Rattle.runs.specs.declared.Record.{Record}
+use Rattle.runs.specs.declared.State.{State}
 use Rattle.runs.specs.declared.Step.{Step}
 use Rattle.runs.proofs.Termination.{steps-few}
-use Rattle.trial.specs.Exchange.{rowTotal, rowOf, trialRows, tableOf}
+use Rattle.trial.specs.Exchange.{rowTotal, rowOf, trialRows}
 use Rattle.trial.specs.Refusals.{trialRefusal}
 use Rattle.trial.specs.declared.Trial.{Trial}
 use Rattle.trial.proofs.Accepted.{Accepted, accepted}
-use Rattle.trial.proofs.Tables.{rowOf-all, tableOf-rows, tableOf-length}
+use Rattle.trial.proofs.Tables.{rowOf-all, trialRows-length}
 use Rattle.words.specs.Words.{wordsOf}
 use Rattle.trialfile.specs.Files.{trialOf, fileChecks, fileRefusal}
 use Rattle.trialfile.proofs.Taken.{read-accepted}
 use Rattle.trialfile.proofs.Inputs.{digits-few}
-use Rattle.balance.specs.Balance.{balancedTable}
-use Rattle.balance.proofs.Balanced.{balanced-all, balancedTable-rows}
-use Rattle.tablebalance.specs.Answers.{balancedRun}
-use Rattle.trialrun.specs.TrialRuns.{trialRun}
+use Rattle.balance.specs.Balance.{balancedRows}
+use Rattle.balance.proofs.Balanced.{balanced-all}
+use Rattle.trialrun.specs.TrialRuns.{trialStart, trialRun}
 use Rattle.trialbalance.specs.TrialBalance.{trialBalancedRun}
 use Rattle.trialrun.specs.FileRuns.{refusedFile, acceptedBy, fileBy}
 use Rattle.trialrun.specs.declared.FileRun.{FileRun}
@@ -76,32 +74,28 @@ rows-few : (t : Trial) → Accepted t → rowTotal t ≤ trialRowsMost
 unfolding rowTotal
 rows-few t acc = acc .laid .rows-most
 
--- ---- the run of a table whose values are whole numbers
+-- ---- a run over rows whose values are whole numbers
 
-module _ (u : List Float) (rows columns k a b o : ℕ) where
-  records-few : length (tableRun u rows columns k a b o .records) ≤ stepsMost
-  unfolding tableRun fullRun
-  records-few = let X = rowsOf rows columns u in let s = tableStart rows columns k a b o in omega (arith, length-map (stepsOf X s) (λ (x : Step). x .logged), steps-few X s)
+module _ (X : List (List Float)) (r : State) where
+  records-few : length (fullRun X r .records) ≤ stepsMost
+  unfolding fullRun
+  records-few = omega (arith, length-map (stepsOf X r) (λ (x : Step). x .logged), steps-few X r)
 
-  module _ (wholes : T (all (all wholeCents) (rowsOf rows columns u))) where
-    records-whole : T (all (λ m. wholeCents (m .critical)) (tableRun u rows columns k a b o .records))
-    unfolding tableRun
-    records-whole = records-hold wholeCents zero-whole (rowsOf rows columns u) wholes (tableStart rows columns k a b o)
-
+  module _ (wholes : T (all (all wholeCents) X)) where
     abbrev criticalAt : ℕ → Float
-    criticalAt i = recordAt (acceptedRun (tableRun u rows columns k a b o)) i .critical
+    criticalAt i = recordAt (acceptedRun (fullRun X r)) i .critical
 
-    record-whole : (i : ℕ) → i < length (tableRun u rows columns k a b o .records) → T (wholeCents (recordAt (acceptedRun (tableRun u rows columns k a b o)) i .critical))
+    record-whole : (i : ℕ) → i < length (fullRun X r .records) → T (wholeCents (recordAt (acceptedRun (fullRun X r)) i .critical))
     unfolding acceptedRun
     record-whole i h =
         let d : Record = record { step = 0; critical = nan } in
-        let rs = tableRun u rows columns k a b o .records in
+        let rs = fullRun X r .records in
         subst (λ (m : Record). T (wholeCents (m .critical))) (sym (List·getD-append rs (replicate (stepsMost - length rs) noRecord) d i h))
-        (all-getD (λ m. wholeCents (m .critical)) rs i d h records-whole)
+        (all-getD (λ m. wholeCents (m .critical)) rs i d h (records-hold wholeCents zero-whole X wholes r))
 
-    table-printable : Printable (acceptedRun (tableRun u rows columns k a b o))
+    run-printable : Printable (acceptedRun (fullRun X r))
     unfolding acceptedRun wholeCents
-    table-printable = record {
+    run-printable = record {
       few-steps = records-few;
       whole = λ i h. and-right (fits binary64 (criticalAt i)) (inSigned binary64 63 (criticalAt i)) (record-whole i h);
       held = λ i h. and-left (fits binary64 (criticalAt i)) (inSigned binary64 63 (criticalAt i)) (record-whole i h);
@@ -114,20 +108,12 @@ PrintableRun run = (t : Trial) → trialRefusal t ≡ 0 → Printable (acceptedR
 
 pub plain-printable : PrintableRun trialRun
 unfolding trialRun
-plain-printable t h = table-printable (tableOf t) (rowTotal t) (t .shape .offers) (t .shape .k) (t .level .a) (t .level .b) 0 wholes
-  where
-    wholes : T (all (all wholeCents) (rowsOf (rowTotal t) (t .shape .offers) (tableOf t)))
-    wholes = rw (tableOf-rows t) (rows-whole t (accepted t h))
+plain-printable t h = run-printable (trialRows t) (trialStart t) (rows-whole t (accepted t h))
 
 pub balanced-printable : PrintableRun trialBalancedRun
-unfolding trialBalancedRun balancedRun
-balanced-printable t h = table-printable (balancedTable (tableOf t) (rowTotal t) (t .shape .offers)) (rowTotal t) (t .shape .offers) (t .shape .k) (t .level .a) (t .level .b) 0 wholes
-  where
-    X : List (List Float)
-    X = rowsOf (rowTotal t) (t .shape .offers) (tableOf t)
-
-    wholes : T (all (all wholeCents) (rowsOf (rowTotal t) (t .shape .offers) (balancedTable (tableOf t) (rowTotal t) (t .shape .offers))))
-    wholes = rw (balancedTable-rows (tableOf t) (rowTotal t) (t .shape .offers) (tableOf-length t)) (balanced-all X wholeCents (λ m l. ofInt-whole (pos m) (omega (arith, rowsOf-length (rowTotal t) (t .shape .offers) (tableOf t), rows-few t (accepted t h)))))
+unfolding trialBalancedRun
+balanced-printable t h = run-printable (balancedRows (trialRows t)) (trialStart t)
+    (balanced-all (trialRows t) wholeCents (λ m l. ofInt-whole (pos m) (omega (arith, trialRows-length t, rows-few t (accepted t h)))))
 
 -- the printed number is the critical value: nothing is cut off
 module _ (run : Trial → Outcome) (p : PrintableRun run) where

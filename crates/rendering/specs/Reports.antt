@@ -2,14 +2,14 @@
 --   headLine s r           figures of an offer, offers and k of a shape, e and M of a full run
 --   stepLine m             a step's number and critical value
 --   verdictWord v          the word for a verdict
---   verdictStep last v     the step that rejected, or the last step
+--   verdictStep last v     the step that rejected, or the last step; 0 for an offer that is set aside (document 02, §4)
 --   offerLine ..           an offer: printed code, verdict, step, count
 --   recordAt, decisionAt   the record of step i and the verdict of offer i, both from 0
 --   stepLineAt, offerLineAt     their lines
 --   trialText t r          the report of a trial with the full run r
 --   reportBy run bytes     all that is printed for a file, by a full run of its trial: the report of that run, or the file's refusal
---   reportOf bytes         the report: by the full run of the trial's table
---   balancedReportOf bytes     the balanced report (document 02, §3): by the full run of its balanced table, whose critical values are ranks
+--   reportOf bytes         the report: by the full run of the trial
+--   balancedReportOf bytes     the balanced report (document 02, §3): by its balanced full run, whose critical values are ranks
 use Prim.Native.Nat.{ℕ}
 use Prim.Native.String.{String}
 use mathlib.Core.List.{List, [], _∷_, _++_}
@@ -20,7 +20,7 @@ use Rattle.runs.specs.Stepdown.{Outcome}
 use Rattle.runs.specs.FullRuns.{acceptedRun}
 use Rattle.runs.specs.declared.Record.{Record}
 use Rattle.runs.specs.declared.Verdict.{Verdict}
-use Rattle.runs.specs.declared.Verdict.the-variants.{Rejected, Kept}
+use Rattle.runs.specs.declared.Verdict.the-variants.{Rejected, Kept, Aside}
 use Rattle.runs.specs.declared.FullRun.{FullRun}
 use Rattle.runs.specs.declared.Decision.{Decision}
 use Rattle.verdicts.specs.Verdicts.{rejectedCount}
@@ -44,10 +44,12 @@ stepLine m = line (ascii "step") (decimal (m .step) ∷ decimalInt (cents (m .cr
 abbrev pub verdictWord : Verdict → String
 verdictWord (Rejected s c) = "rejected"
 verdictWord (Kept c) = "kept"
+verdictWord Aside = "aside"
 
 abbrev pub verdictStep : ℕ → Verdict → ℕ
 verdictStep last (Rejected s c) = s
 verdictStep last (Kept c) = last
+verdictStep last Aside = 0
 
 abbrev pub offerLine : ℕ → ℕ → Verdict → ℕ → ℕ → List ℕ
 offerLine code digits v last n = line (printed digits code) (ascii (verdictWord v) ∷ decimal (verdictStep last v) ∷ decimal n ∷ [])

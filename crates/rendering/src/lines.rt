@@ -43,7 +43,7 @@ fn step(out: &mut [u8], at: usize, m: Record) -> usize
     text::put(out, at3, b'\n')
 }
 
-// the word for a verdict, and the step that rejected or the last step
+// the word for a verdict, and the step that rejected or the last step; 0 for an offer that is set aside
 fn verdict(out: &mut [u8], at: usize, v: Verdict, last: usize) -> usize
     requires { ⌜ at + 29 ≤ length (now out) ⌝ }
     ensures { λ r. ⌜ Wrote (now (out .entry)) (now (out .exit)) at r (ascii (verdictWord v) ++ (ascii " " ++ decimal (verdictStep last v))) × (r ≤ at + 29) ⌝ }
@@ -56,6 +56,10 @@ fn verdict(out: &mut [u8], at: usize, v: Verdict, last: usize) -> usize
         Verdict::Kept(_) => {
             let next = text::put_all(out, at, b"kept");
             text::put_field(out, next, last)
+        }
+        Verdict::Aside => {
+            let next = text::put_all(out, at, b"aside");
+            text::put_field(out, next, 0)
         }
     }
 }

@@ -4,6 +4,7 @@ pub mod Start
 pub mod Termination
 pub mod Descent
 pub mod RejectedSets
+pub mod Told
 pub mod RejectedVerdicts
 pub mod Loosening
 pub mod Examples

@@ -7,6 +7,7 @@
 --   Before, Ended         what holds before each step, and at the end: no column that is left lies above the critical value of a further step
 --   row-sound             the observed row is one of the table's
 --   at-keeps, at-ends     a fact that each step keeps holds of what is rejected in the end; and the run has ended there
+--   rejected-live         what is rejected in the end is live
 use Prim.Native.Nat.{ℕ, zero, suc, _+_, _≤_, _<_}
 use native.Mathlib.Omega.{arith}
 use mathlib.Core.Path.{_≡_, refl, sym, ap, _∙_, subst}
@@ -205,6 +206,11 @@ module _ (k e : ℕ) (X : List (List Float)) (live : Columns) (o : ℕ) (sound :
       → P (map (λ _. false) live) → P (rejectedSetAt k e X live o)
   unfolding rejectedSetAt
   at-keeps P f p = keeps k e X live (getD X o []) sound row-sound P f 32 false (map (λ _. false) live) 0 (λ _. start) p
+
+  pub rejected-live : rejectedSetAt k e X live o ⊆ live
+  rejected-live = at-keeps (λ R. R ⊆ live)
+      (λ R s b sub. grown-by k e X live (getD X o []) sound row-sound R s (⊆-length sub) live refl (⊆-at sub) (λ j t. step-in k e X live (getD X o []) sound row-sound R s (⊆-length sub) j t .0 .0))
+      (empty-under live live refl)
 
   pub at-ends : 0 < k → length live ≤ 32 → Ended k e X live (getD X o []) (rejectedSetAt k e X live o)
   unfolding rejectedSetAt

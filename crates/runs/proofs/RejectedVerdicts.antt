@@ -1,22 +1,21 @@
 -- The verdicts of a full run, by rejected sets alone.
 --   verdict-at       where k or more columns are live, a column's verdict is rejected exactly where the method rejects it at the run's e
---   too-few-kept     where fewer are, no step is taken and every column is kept
+--   too-few-kept     where fewer are, no step is taken and no column is rejected
 use Prim.Native.Nat.{ℕ, zero, suc, _+_, _≤_, _<_}
 use native.Mathlib.Numerals.{add-one}
 use mathlib.Core.Path.{_≡_, refl, sym, ap, ap₂, _∙_, subst}
-use mathlib.Core.Bool.{Bool, true, false, cond}
+use mathlib.Core.Bool.{Bool, true, false, cond, _&&_}
 use mathlib.Core.List.{List, [], map}
 use lib.ListN.{length, getD}
 use lib.Dec.{T}
 use lib.Ieee.{Float}
 use borrow.Author.Tests.{lt-ltb, le-ltb}
 use Rattle.order.specs.Order.{plusZero}
-use Rattle.order.proofs.Booleans.{or-left, true-T, T-true}
-use Rattle.order.proofs.Lists.{tabulate-getD}
+use Rattle.order.proofs.Booleans.{same-test, and-right, and-both, or-left, true-T, T-true}
 use Rattle.order.proofs.Rows.{Sound}
 use Rattle.columns.specs.Columns.{Columns, size, _∪_, inSet, columnsOf}
-use Rattle.columns.proofs.Sets.{has, has-∪}
-use Rattle.columns.proofs.Masks.{columnsOf-length, columnsOf-none}
+use Rattle.columns.proofs.Sets.{has, has-∪, ⊆-at}
+use Rattle.columns.proofs.Masks.{columnsOf-length, columnsOf-none, has-columnsOf}
 use Rattle.runs.specs.Stepdown.{liveSet, rejectedSet, firstState, criticalOf, newlyRejected, endsAfter, next, recordOf, stepsFrom, stepsOf, verdictFrom, verdictOf, fullRun}
 use Rattle.runs.specs.FullRuns.{isRejected}
 use Rattle.runs.specs.declared.State.{State}
@@ -24,7 +23,8 @@ use Rattle.runs.specs.declared.Verdict.the-variants.{Rejected, Kept}
 use Rattle.runs.proofs.Steps.{seenRow, at-column, both-length, next-rejected}
 use Rattle.runs.proofs.Start.{first-empty}
 use Rattle.runs.proofs.Termination.{lastState}
-use Rattle.runs.proofs.RejectedSets.{stepRejects, rejectedFrom, rejectedSetAt}
+use Rattle.runs.proofs.RejectedSets.{stepRejects, rejectedFrom, rejectedSetAt, rejected-live}
+use Rattle.runs.proofs.Told.{rejected-told}
 
 -- ---- from step to step
 
@@ -93,15 +93,26 @@ module _ (X : List (List Float)) (rows columns k e observed live : ℕ) (j : ℕ
       ∙ ap (λ (R : Columns). has R j) (sym (last-set X n false first sound seen) ∙ ap (λ (R : Columns). rejectedFrom n false k e X (columnsOf columns live) (getD X observed []) R 0) first-set)
 
   run-verdict : (b : Bool) → firstState rows columns k e observed live .ended ≡ b
-      → isRejected (getD (fullRun X (firstState rows columns k e observed live) .verdicts) j (Kept plusZero)) ≡ isRejected (verdictFrom plusZero (stepsFrom 32 b X (firstState rows columns k e observed live)) j)
-  unfolding fullRun stepsOf verdictOf
-  run-verdict b q = ap isRejected (tabulate-getD columns (λ j. verdictOf (stepsOf X first) j) j (Kept plusZero) h ∙ ap (λ (b : Bool). verdictFrom plusZero (stepsFrom 32 b X first) j) q)
+      → isRejected (getD (fullRun X (firstState rows columns k e observed live) .verdicts) j (Kept plusZero))
+      ≡ (inSet live j && isRejected (verdictFrom plusZero (stepsFrom 32 b X (firstState rows columns k e observed live)) j))
+  unfolding stepsOf verdictOf
+  run-verdict b q = rejected-told X first j h (Kept plusZero) ∙ ap (λ (b : Bool). inSet live j && isRejected (verdictFrom plusZero (stepsFrom 32 b X first) j)) q
+
+  is-live : Sound columns X → observed < length X → T (has (rejectedSetAt k e X (columnsOf columns live) observed) j) → T (inSet live j)
+  is-live sound seen t = subst (λ (b : Bool). T b) (has-columnsOf columns live j h)
+      (⊆-at (rejected-live k e X (columnsOf columns live) observed (subst (λ (n : ℕ). Sound n X) (sym (columnsOf-length columns live)) sound) seen) j t)
 
   pub verdict-at : Sound columns X → observed < length X → k ≤ size (columnsOf columns live)
       → isRejected (getD (fullRun X (firstState rows columns k e observed live) .verdicts) j (Kept plusZero)) ≡ has (rejectedSetAt k e X (columnsOf columns live) observed) j
   unfolding rejectedSetAt
-  verdict-at sound seen held = run-verdict false (le-ltb (size (columnsOf columns live)) k held) ∙ by-steps sound seen 32
+  verdict-at sound seen held =
+      run-verdict false (le-ltb (size (columnsOf columns live)) k held)
+      ∙ ap (λ (b : Bool). inSet live j && b) (by-steps sound seen 32)
+      ∙ same-test (inSet live j && R) R (and-right (inSet live j) R) (λ t. and-both (inSet live j) R (is-live sound seen t) t)
+    where
+      R : Bool
+      R = has (rejectedSetAt k e X (columnsOf columns live) observed) j
 
   pub too-few-kept : size (columnsOf columns live) < k → isRejected (getD (fullRun X (firstState rows columns k e observed live) .verdicts) j (Kept plusZero)) ≡ false
   unfolding stepsFrom
-  too-few-kept few = run-verdict true (lt-ltb (size (columnsOf columns live)) k few)
+  too-few-kept few = run-verdict true (lt-ltb (size (columnsOf columns live)) k few) ∙ same-test (inSet live j && false) false (and-right (inSet live j) false) (λ t. absurd t)

@@ -18,7 +18,7 @@ use Rattle.runs.specs.Stepdown.{Outcome}
 use Rattle.runs.specs.Tables.{tableRun}
 use Rattle.runs.specs.declared.Record.{Record}
 use Rattle.runs.specs.declared.Verdict.{Verdict}
-use Rattle.runs.specs.declared.Verdict.the-variants.{Rejected, Kept}
+use Rattle.runs.specs.declared.Verdict.the-variants.{Rejected, Kept, Aside}
 
 -- ---- how an example is written
 
@@ -53,6 +53,7 @@ abbrev pub anyRejected : List Verdict → Bool
 anyRejected [] = false
 anyRejected (Rejected s c ∷ vs) = true
 anyRejected (Kept c ∷ vs) = anyRejected vs
+anyRejected (Aside ∷ vs) = anyRejected vs
 
 -- ---- the tables, their values written out as the checker computes with them; proofs/Examples.antt has them as whole numbers
 

@@ -4,8 +4,8 @@
 --   refusedRun n       what a full run that is refused by n answers: blank but for the number
 --   verdictsIn n f     the verdicts of n columns that a full run holds
 --   isRejected v       the verdict is rejected
---   rejectingStep v    the step that rejected, and 0 where the verdict is kept
---   criticalIn v       the critical value: that of the rejecting step, or the last one
+--   isAside v          the column is set aside (document 02, §4)
+--   criticalIn v       the critical value: that of the rejecting step, or the last one; plus zero where there is none
 use Prim.Native.Nat.{ℕ}
 use mathlib.Core.Bool.{Bool, true, false}
 use mathlib.Core.List.{List, map}
@@ -18,7 +18,7 @@ use Rattle.runs.specs.declared.Record.{Record}
 use Rattle.runs.specs.declared.Verdict.{Verdict}
 use Rattle.runs.specs.declared.Decision.{Decision}
 use Rattle.runs.specs.declared.FullRun.{FullRun}
-use Rattle.runs.specs.declared.Verdict.the-variants.{Rejected, Kept}
+use Rattle.runs.specs.declared.Verdict.the-variants.{Rejected, Kept, Aside}
 
 abbrev pub noRecord : Record
 noRecord = record { step = 0; critical = plusZero }
@@ -49,11 +49,14 @@ verdictsIn n f = map (λ d. d .verdict) (take n (f .decisions))
 abbrev pub isRejected : Verdict → Bool
 isRejected (Rejected s c) = true
 isRejected (Kept c) = false
+isRejected Aside = false
 
-abbrev pub rejectingStep : Verdict → ℕ
-rejectingStep (Rejected s c) = s
-rejectingStep (Kept c) = 0
+abbrev pub isAside : Verdict → Bool
+isAside (Rejected s c) = false
+isAside (Kept c) = false
+isAside Aside = true
 
 abbrev pub criticalIn : Verdict → Float
 criticalIn (Rejected s c) = c
 criticalIn (Kept c) = c
+criticalIn Aside = plusZero

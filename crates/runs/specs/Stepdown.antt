@@ -10,7 +10,9 @@
 --   step X s                           both
 --   stepsFrom n ended X s              the steps from s on until one has ended, at most n; `ended` is whether s has
 --   stepsOf X s                        all of them
---   verdictFrom last steps j, verdictOf steps j     column j's verdict, after the last critical value so far; from the first step on
+--   verdictFrom last steps j, verdictOf steps j     a live column j's verdict, after the last critical value so far; from the first step on
+--   verdictAt s steps j                column j's verdict; one that is not live is set aside
+--   countAt X s j                      its count; 0 where it is set aside
 --   Outcome                            what a full run tells: M (the rows of its table), e, verdicts, counts and records
 --   fullRun X s                        those of the run that begins with s
 use Prim.Native.Nat.{ℕ, zero, suc, _+_}
@@ -27,7 +29,7 @@ use Rattle.runs.specs.declared.State.{State}
 use Rattle.runs.specs.declared.Record.{Record}
 use Rattle.runs.specs.declared.Step.{Step}
 use Rattle.runs.specs.declared.Verdict.{Verdict}
-use Rattle.runs.specs.declared.Verdict.the-variants.{Rejected, Kept}
+use Rattle.runs.specs.declared.Verdict.the-variants.{Rejected, Kept, Aside}
 
 abbrev pub liveSet : State → Columns
 liveSet s = columnsOf (s .columns) (s .live)
@@ -118,6 +120,13 @@ verdictFrom last (s ∷ ss) j =
 unfoldable pub verdictOf : List Step → ℕ → Verdict
 verdictOf ss j = verdictFrom plusZero ss j
 
+-- only live columns have verdicts and counts of the method
+abbrev pub verdictAt : State → List Step → ℕ → Verdict
+verdictAt s ss j = cond (inSet (s .live) j) (verdictOf ss j) Aside
+
+abbrev pub countAt : List (List Float) → State → ℕ → ℕ
+countAt X s j = cond (inSet (s .live) j) (atLeast X (getD (getD X (s .observed) []) j nan) j) 0
+
 pub record Outcome : Type 0 where
   pub rows : ℕ
   pub e : ℕ
@@ -129,11 +138,10 @@ unfoldable pub fullRun : List (List Float) → State → Outcome
 unfolding stepsOf verdictOf tabulate atLeast
 fullRun X s =
     let ss = stepsOf X s in
-    let seen = getD X (s .observed) [] in
     record {
       rows = s .rows;
       e = s .e;
-      verdicts = tabulate (s .columns) (λ j. verdictOf ss j);
-      counts = tabulate (s .columns) (λ j. atLeast X (getD seen j nan) j);
+      verdicts = tabulate (s .columns) (λ j. verdictAt s ss j);
+      counts = tabulate (s .columns) (λ j. countAt X s j);
       records = map (λ s. s .logged) ss;
     }

@@ -29,10 +29,12 @@ pub struct Step {
     pub logged: Record,
 }
 
-// A hypothesis (document 01: offer) is rejected, with the step and its critical value, or kept, with the last critical value.
+// A hypothesis (document 01: offer) is rejected, with the step and its critical value, or kept, with the last critical value; one that is not live is
+// set aside (document 02, §4).
 pub enum Verdict {
     Rejected(usize, f64),
     Kept(f64),
+    Aside,
 }
 
 // A verdict in a struct of its own: an array of enums is no field.
@@ -41,7 +43,8 @@ pub struct Decision {
 }
 
 // A full run: 0 or the refusal number; M, the rows of its table; e; how many steps; a record for each step; a verdict and a
-// count for each column. Places that the steps and columns don't use are blank, and a refused run is blank but for its number.
+// count for each column, and the count 0 for one that is set aside. Places that the steps and columns don't use are blank, and a refused run is blank
+// but for its number.
 pub struct FullRun {
     pub refusal: u32,
     pub rows: usize,

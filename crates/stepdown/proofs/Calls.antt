@@ -16,10 +16,10 @@ use lib.Ieee.{Float}
 use borrow.Author.Tests.{ltb-false}
 use Rattle.order.specs.Lists.{rowsOf}
 use Rattle.refusals.specs.Answers.{answer}
-use Rattle.refusals.specs.Limits.{badSizes, badLevel, allowance}
+use Rattle.refusals.specs.Limits.{allowance}
 use Rattle.refusals.specs.Buffers.{cleared}
 use Rattle.refusals.proofs.Answers.{NoneHolds, none-holds, accepted, refused, answer-map}
-use Rattle.refusals.proofs.Limits.{Sizes, sizes, level, allowance-lt}
+use Rattle.refusals.proofs.Limits.{allowance-lt}
 use Rattle.columns.specs.Columns.{Columns, size, _∖_, columnsOf, fullMask}
 use Rattle.columns.proofs.Sets.{has, has-length, has-all, size-left}
 use Rattle.columns.proofs.Masks.{columnsOf-length, full-columns, full-fits, size-none}
@@ -49,19 +49,9 @@ step-judged t r places = refl
 
 -- ---- figures that have passed their checks
 
--- a table's size fits a usize, and so does M × a
+-- a table's size fits a usize
 pub size-fits : (rows columns : ℕ) → rows ≤ 4096 → columns ≤ 32 → rows * columns < 2 ^ 64
 size-fits rows columns h k = omega (arith, mul-le-mul-right columns h)
-
-pub level-fits : (rows a b : ℕ) → badSizes 4096 32 rows 1 1 ≡ false → badLevel a b ≡ false → rows * a < 2 ^ 64
-level-fits rows a b h k = let l = level a b k in omega (arith, mul-le-mul-right a (sizes 4096 32 rows 1 1 h .rows-most), l .proper, l .b-most)
-
-pub level-some : (a b : ℕ) → badLevel a b ≡ false → 0 < b
-level-some a b h = omega (arith, level a b h .proper)
-
-pub rows-pass : (rows columns k : ℕ) → Sizes 4096 32 rows columns k → badSizes 4096 32 rows 1 1 ≡ false
-unfolding badSizes
-rows-pass rows columns k s = Rattle.refusals.proofs.Limits.neither (Rattle.refusals.proofs.Limits.within 1 4096 rows (s .rows-some) (s .rows-most)) refl
 
 -- ---- a run that can be stepped
 

@@ -12,8 +12,6 @@ ghost use lib.ListN.{length};
 ghost use Rattle.stepdown.specs.Runs.{stateOf, resume};
 ghost use Rattle.stepdown.specs.Refusals.{badFigures};
 ghost use Rattle.stepdown.specs.Answers.{beginAnswer, stepAnswer, stepWork, fullAnswer, fullWork};
-ghost use Rattle.limits.specs.Limits.{tableRowsMost, columnsMost};
-ghost use Rattle.refusals.specs.Limits as limits;
 
 // A run (document 01), by value. The level is a/b; bit j of `rejected` says that column j is rejected.
 pub struct Run {
@@ -40,14 +38,6 @@ pub enum StepAnswer {
     Refused(u32),
 }
 
-// e, where the level becomes a number of rows.
-fn allowance(rows: usize, a: usize, b: usize) -> usize
-    requires { ⌜ (limits.badSizes tableRowsMost columnsMost rows 1 1 ≡ false) × (limits.badLevel a b ≡ false) ⌝ }
-    ensures { λ e. ⌜ e ≡ limits.allowance rows a b ⌝ }
-{
-    rows * a / b
-}
-
 // The state that a run with good figures is in: its e, and all columns live.
 fn state_of(r: Run) -> State
     requires { ⌜ badFigures r ≡ false ⌝ }
@@ -57,7 +47,7 @@ fn state_of(r: Run) -> State
         rows: r.rows,
         columns: r.columns,
         k: r.k,
-        e: allowance(r.rows, r.a, r.b),
+        e: engine::allowance(r.rows, r.a, r.b),
         observed: r.observed,
         live: masks::full_mask(r.columns),
         rejected: r.rejected,
@@ -148,7 +138,7 @@ pub fn full_run(
     if n != 0 {
         return runs::refused(n);
     }
-    let e = allowance(rows, a, b);
+    let e = engine::allowance(rows, a, b);
     let live = masks::full_mask(columns);
     engine::full_run(table, work, rows, columns, k, e, observed, live)
 }

@@ -1,36 +1,22 @@
 -- The call for the figures of a table: what it asks of its parts, and its answers.
---   all-few, all-pass        the figures of all columns, where fewer than k are live, and by the pass
 --   passable                 an accepted table, with all columns live
 --   figures-refused, figures-kept, figures-on, figures-cleared     each answer is the definition's
-use Prim.Native.Nat.{ℕ, _≤_, _<_}
+use Prim.Native.Nat.{ℕ}
 use native.Mathlib.Omega.{arith}
 use mathlib.Core.Path.{_≡_, sym, ap, _∙_}
 use mathlib.Core.List.{List}
-use lib.ListN.{length, replicate}
+use lib.ListN.{length}
 use lib.Ieee.{Float}
 use Rattle.order.specs.Lists.{rowsOf, padded}
-use Rattle.order.proofs.Lists.{rowsOf-length}
-use Rattle.order.proofs.Rows.{rowsOf-sound}
 use Rattle.refusals.specs.Buffers.{cleared}
 use Rattle.refusals.proofs.Answers.{refused, accepted}
-use Rattle.columns.specs.Columns.{size, columnsOf, fullMask}
+use Rattle.columns.specs.Columns.{fullMask}
 use Rattle.columns.proofs.Masks.{full-fits}
 use Rattle.adjustment.specs.Adjusted.{adjustedFigures, tableFigures}
-use Rattle.adjustment.specs.Passes.{kMaxPass}
 use Rattle.adjustment.specs.Answers.{adjustmentCallChecks, adjustmentCallRefusal, acceptedFigures, refusedFigures, figuresAnswer, figuresWork}
-use Rattle.tableadjustment.specs.Internal.{Passable}
 use Rattle.adjustment.specs.declared.Adjusted.{Adjusted}
-use Rattle.adjustment.proofs.Figures.{figures-few}
-use Rattle.adjustment.proofs.Passing.{kMaxPass-agrees}
 use Rattle.adjustment.proofs.Accepted.{Accepted, accepted-checked, call-accepted}
-
-module _ {t : List Float} {rows columns k observed live : ℕ} (r : Passable t rows columns k observed live) (fs : List ℕ) (n : ℕ) (counted : n ≡ size (columnsOf columns live)) where
-  pub all-few : n < k → fs ≡ padded 32 0 (replicate columns rows) → fs ≡ padded 32 0 (adjustedFigures (rowsOf rows columns t) rows columns k observed live)
-  all-few few e = e ∙ ap (padded 32 0) (sym (figures-few (rowsOf rows columns t) rows columns k observed live (omega arith)))
-
-  pub all-pass : k ≤ n → fs ≡ padded 32 0 (kMaxPass k (rowsOf rows columns t) (columnsOf columns live) observed) → fs ≡ padded 32 0 (adjustedFigures (rowsOf rows columns t) rows columns k observed live)
-  all-pass many e = e ∙ ap (padded 32 0)
-      (kMaxPass-agrees (rowsOf rows columns t) rows columns k observed live (rowsOf-sound rows columns t (r .ready .full) (r .ready .finitely)) (sym (rowsOf-length rows columns t)) (r .seen) (r .ready .cols-most) (r .ready .k-some) (omega arith))
+use Rattle.figuring.specs.Internal.{Passable}
 
 module _ (t : List Float) (rows columns k observed : ℕ) (work : List Float) (n : ℕ) (e : n ≡ adjustmentCallRefusal t rows columns k observed (length work)) where
   pub passable : (live : ℕ) → n ≡ 0 → live ≡ fullMask columns → Passable t rows columns k observed live

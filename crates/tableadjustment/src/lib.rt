@@ -1,10 +1,6 @@
-// The adjusted figures of a table (document 02, §1): a public call, which refuses bad input, and the pass that works them out.
-// What they are, and that the pass gives them, stands in crate adjustment.
-mod counting; // the count that a value needs, by row masks
-mod maxima; // counts by maxima, for all columns at once
-mod pass; // the pass down the observed values
+// The adjusted figures of a table (document 02, §1): a public call, which refuses bad input.
+// What they are stands in crate adjustment; crate figuring works them out.
 mod refusal; // what is turned away
-mod top; // the column with the largest value in a row
 
 use adjustment::Adjusted;
 ghost use mathlib.Core.Path.{_≡_};
@@ -29,7 +25,7 @@ pub fn adjusted_figures(
     }
     engine::clear(work, rows);
     let live = masks::full_mask(columns);
-    let figures = pass::all_figures(table, rows, columns, k, observed, live);
+    let figures = figuring::all_figures(table, rows, columns, k, observed, live);
     Adjusted {
         refusal: 0,
         rows,

@@ -6,13 +6,14 @@
 --   Sized, sized                     what a size tells of its trial
 use Prim.Native.Nat.{ℕ, _*_, _≤_}
 use native.Mathlib.Nat.{mul-le-mul}
-use mathlib.Core.Path.{_≡_, sym, ap, _∙_}
+use mathlib.Core.Path.{_≡_, sym, ap, ap₂, _∙_}
 use mathlib.Core.List.{_++_}
 use Rattle.refusals.specs.Answers.{Checks, answer, firstRefusal}
 use Rattle.refusals.proofs.Answers.{refused, answer-append, answer-map}
 use Rattle.limits.specs.Limits.{trialTableMost}
 use Rattle.trial.specs.Designs.{rowCount}
 use Rattle.trial.specs.Exchange.{rowTotal}
+use Rattle.trial.specs.Aside.{liveMask}
 use Rattle.trial.specs.Refusals.{trialChecks, trialRefusal}
 use Rattle.trial.specs.Lent.{sizeOf}
 use Rattle.trial.specs.declared.TableSize.{TableSize}
@@ -44,10 +45,10 @@ total-most t acc = mul-le-mul (acc .laid .rows-most) (acc .offers-most)
 -- ---- the size
 
 abbrev noSize : ℕ → TableSize
-noSize n = record { refusal = n; rows = 0; columns = 0 }
+noSize n = record { refusal = n; rows = 0; columns = 0; live = 0 }
 
 abbrev fullSize : Trial → TableSize
-fullSize t = record { refusal = 0; rows = rowTotal t; columns = t .shape .offers }
+fullSize t = record { refusal = 0; rows = rowTotal t; columns = t .shape .offers; live = liveMask t }
 
 module _ (t : Trial) (r : ℕ) (e : r ≡ trialRefusal t) where
   pub size-refused : (r ≡ 0 → ⊥) → noSize r ≡ sizeOf t
@@ -58,15 +59,16 @@ module _ (t : Trial) (r : ℕ) (e : r ≡ trialRefusal t) where
   unfolding sizeOf trialRefusal
   size-is h = answers.accepted (fullSize t) noSize (trialChecks t) r e h
 
-  pub size-given : r ≡ 0 → (m : ℕ) → m ≡ rowCount (t .shape .design) → record { refusal = 0; rows = m; columns = t .shape .offers } ≡ sizeOf t
+  pub size-given : r ≡ 0 → (m l : ℕ) → m ≡ rowCount (t .shape .design) → l ≡ liveMask t → record { refusal = 0; rows = m; columns = t .shape .offers; live = l } ≡ sizeOf t
   unfolding rowTotal
-  size-given h m q = ap (λ (n : ℕ). record { refusal = 0; rows = n; columns = t .shape .offers }) q ∙ size-is h
+  size-given h m l q p = ap₂ (λ (x y : ℕ). record { refusal = 0; rows = x; columns = t .shape .offers; live = y }) q p ∙ size-is h
 
 -- what a size tells of its trial
 pub record Sized (t : Trial) (s : TableSize) : Type 0 where
   pub refusal-is : s .refusal ≡ trialRefusal t
   pub rows-are : s .refusal ≡ 0 → s .rows ≡ rowTotal t
   pub columns-are : s .refusal ≡ 0 → s .columns ≡ t .shape .offers
+  pub live-is : s .refusal ≡ 0 → s .live ≡ liveMask t
 
 module _ (t : Trial) (s : TableSize) (q : s ≡ sizeOf t) where
   number-is : s .refusal ≡ trialRefusal t
@@ -77,4 +79,9 @@ module _ (t : Trial) (s : TableSize) (q : s ≡ sizeOf t) where
   full z = q ∙ sym (size-is t (s .refusal) number-is z)
 
   pub sized : Sized t s
-  sized = record { refusal-is = number-is; rows-are = λ z. ap (λ (x : TableSize). x .rows) (full z); columns-are = λ z. ap (λ (x : TableSize). x .columns) (full z) }
+  sized = record {
+    refusal-is = number-is;
+    rows-are = λ z. ap (λ (x : TableSize). x .rows) (full z);
+    columns-are = λ z. ap (λ (x : TableSize). x .columns) (full z);
+    live-is = λ z. ap (λ (x : TableSize). x .live) (full z);
+  }

@@ -1,4 +1,4 @@
--- Laws of how a trial was laid out, by its cases: nothing else of this crate knows them.
+-- Laws of how a trial was laid out, by its cases: of this crate only Aside knows them too.
 --   rowCount-some, rowCount-power    there is a row; M as a power
 --   rows-shift                       M as a shift
 --   LaidOut, laid-out                what an accepted layout is known to be

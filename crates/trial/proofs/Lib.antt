@@ -3,6 +3,7 @@ pub mod Sums
 pub mod LaidOut
 pub mod Accepted
 pub mod Tables
+pub mod Aside
 pub mod Conditions
 pub mod Calls
 pub mod Unused

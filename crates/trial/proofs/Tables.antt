@@ -1,5 +1,5 @@
 -- Laws of a trial's table: its rows.
---   drop-take                        a part of a first part
+--   byOffer-figures                  the figures of each offer, in the array
 --   entries-small, rowOf-all         the entries of a row are at most 2^53, and what holds of such numbers holds of its values
 --   rowOf-.., trialRows-..           how long rows are, how many, which; those of an accepted trial are finite
 --   even-rows, tableOf-rows          the lent table has these rows
@@ -9,9 +9,9 @@ use Prim.Native.Nat.{ℕ, zero, suc, _+_, _*_, _^_, _≤_, _<_}
 use native.Mathlib.Omega.{arith}
 use native.Mathlib.Nat.{suc-mul}
 use native.Mathlib.Decide.{decLe}
-use mathlib.Core.Path.{_≡_, sym, ap, _∙_, subst}
+use mathlib.Core.Path.{_≡_, refl, sym, ap, ap₂, _∙_, subst}
 use mathlib.Core.Bool.{Bool, not, _&&_}
-use mathlib.Core.List.{List, [], _++_}
+use mathlib.Core.List.{List, [], _∷_, _++_}
 use lib.ListN.{length, getD, take, drop, length-map, length-append, length-take, drop-of-length-le}
 use lib.Seq.{drop-at, take-take, take-add, take-nil, length-take-le}
 use lib.Dec.{T, eqb, leb, eqb-refl, leb→le, le→leb}
@@ -38,12 +38,27 @@ use Rattle.trial.proofs.Accepted.{Accepted}
 
 -- ---- differences, offer by offer
 
-pub drop-take : {A : Type 0} (n m : ℕ) (xs : List A) → drop n (take (n + m) xs) ≡ take m (drop n xs)
+drop-take : {A : Type 0} (n m : ℕ) (xs : List A) → drop n (take (n + m) xs) ≡ take m (drop n xs)
 drop-take n m xs = ap (drop n) (take-add n m xs) ∙ seam (decLe n (length xs))
   where
     seam : Dec (n ≤ length xs) → drop n (take n xs ++ take m (drop n xs)) ≡ take m (drop n xs)
     seam (yes h) = drop-at (take n xs) (take m (drop n xs)) n (length-take-le n xs h)
     seam (no h) = rw (drop-of-length-le xs {i = n} (omega (arith, h)), take-nil m) (drop-of-length-le (take n xs ++ []) {i = n} (simp (length-append, length-take) (omega (arith, h))))
+
+-- the figures that are used, offer by offer
+rowsOf-take : {A : Type 0} (m n : ℕ) (xs : List A) → rowsOf m n (take (m * n) xs) ≡ rowsOf m n xs
+unfolding rowsOf
+rowsOf-take zero n xs = refl
+rowsOf-take (suc m) n xs =
+    ap₂ (λ (r : List _) (rs : List (List _)). r ∷ rs) (take-take n (suc m * n) xs (omega (arith, suc-mul m n)))
+    (ap (rowsOf m n) (ap (λ (i : ℕ). drop n (take i xs)) sum ∙ drop-take n (m * n) xs) ∙ rowsOf-take m n (drop n xs))
+  where
+    sum : suc m * n ≡ n + m * n
+    sum = omega (arith, suc-mul m n)
+
+pub byOffer-figures : (t : Trial) → byOffer t ≡ rowsOf (t .shape .offers) (unitsOf (t .shape .design)) (t .figures)
+unfolding byOffer figureCount
+byOffer-figures t = rowsOf-take (t .shape .offers) (unitsOf (t .shape .design)) (t .figures)
 
 -- an offer's differences: at most n of them, all in range
 okOffer : ℕ → List ℤ → Bool

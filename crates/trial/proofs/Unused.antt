@@ -2,11 +2,13 @@
 --   contents-filled, same-trimmed    a record holds the contents that it is filled with; a trial with zero in its unused places is the same trial
 --   checks-same, refusal-same        checks, and the refusal that comes of them
 --   table-same, rows-same            table
+--   live-same                        offers that take part
 --   size-same                        size
 --   call-same, buffer-same           answer of a call for the table, and buffer after it
 use Prim.Native.Nat.{ℕ, _-_, _*_}
 use native.Mathlib.Omega.{arith}
 use mathlib.Core.Path.{_≡_, refl, sym, ap, ap₂, _∙_}
+use mathlib.Core.Bool.{not}
 use mathlib.Core.List.{List, _++_, map}
 use lib.ListN.{length, take, replicate}
 use lib.Seq.{take-at, length-take-le}
@@ -14,11 +16,13 @@ use lib.IntN.{pos}
 use lib.Ieee.{Float, binary64, ofInt}
 use Rattle.limits.specs.Limits.{offersMost, figuresMost}
 use Rattle.order.specs.Lists.{tabulate, rowsOf, joined, padded}
+use Rattle.columns.specs.Columns.{maskOf}
 use Rattle.refusals.specs.Answers.{Checks, answer, firstRefusal, afterwards}
 use Rattle.refusals.specs.Buffers.{tooShort, written}
-use Rattle.trial.specs.Designs.{unitsOf, rowCount, entryOf}
+use Rattle.trial.specs.Designs.{unitsOf, rowCount, entryOf, untested}
 use Rattle.trial.specs.Record.{ArrayLengths, figureCount, Contents, contents, filled, trimmed, Same}
 use Rattle.trial.specs.Exchange.{byOffer, rowTotal, rowOf, trialRows, tableOf}
+use Rattle.trial.specs.Aside.{liveOffers, liveMask}
 use Rattle.trial.specs.Refusals.{contentChecks, trialChecks, trialRefusal}
 use Rattle.trial.specs.Lent.{sizeOf, tableCallChecks, tableCallRefusal, tableBuffer}
 use Rattle.trial.specs.declared.Trial.{Trial}
@@ -35,6 +39,15 @@ tableFrom c =
 tableOf-contents : (t : Trial) → tableOf t ≡ tableFrom (contents t)
 unfolding tableOf trialRows rowTotal rowOf byOffer tableFrom
 tableOf-contents t = refl
+
+-- the offers of contents that take part
+liveFrom : Contents → ℕ
+unfolding maskOf rowsOf untested
+liveFrom c = let s = c .setting .shape in maskOf (map (λ xs. not (untested (s .design) xs)) (rowsOf (s .offers) (unitsOf (s .design)) (c .figures)))
+
+live-contents : (t : Trial) → liveMask t ≡ liveFrom (contents t)
+unfolding liveMask liveOffers byOffer liveFrom
+live-contents t = refl
 
 -- a record holds the contents that it is filled with
 padded-take : {A : Type 0} (n m : ℕ) (d : A) (xs : List A) → length xs ≡ m → take m (padded n d xs) ≡ xs
@@ -75,9 +88,15 @@ module _ (t u : Trial) (s : Same t u) where
   unfolding rowTotal
   rows-same = ap (λ (c : Contents). rowCount (c .setting .shape .design)) s
 
+  pub live-same : liveMask t ≡ liveMask u
+  live-same = live-contents t ∙ ap liveFrom s ∙ sym (live-contents u)
+
   pub size-same : sizeOf t ≡ sizeOf u
-  unfolding sizeOf rowTotal trialChecks
-  size-same = ap (λ (c : Contents). answer (contentChecks c) (record { refusal = 0; rows = rowCount (c .setting .shape .design); columns = c .setting .shape .offers }) (λ r. record { refusal = r; rows = 0; columns = 0 })) s
+  unfolding sizeOf rowTotal trialChecks liveMask liveOffers byOffer liveFrom
+  size-same =
+      ap (λ (c : Contents). answer (contentChecks c)
+      (record { refusal = 0; rows = rowCount (c .setting .shape .design); columns = c .setting .shape .offers; live = liveFrom c })
+      (λ r. record { refusal = r; rows = 0; columns = 0; live = 0 })) s
 
   calls-same : (places : ℕ) → tableCallChecks t places ≡ tableCallChecks u places
   unfolding tableCallChecks

@@ -7,12 +7,14 @@
 --   rowCount d           M: the rows of the table, one for each way to exchange the shops of pairs
 --   entryOf d g xs       the whole number in row g of an offer with the figures xs
 --   listed d g xs        what run g of demand 3 lists as the figures of an idle offer that has the figures xs
+--   untested d xs        an offer with the figures xs has not been tested (document 02, §4): every difference is 0
 use Prim.Native.Nat.{ℕ, _/_, _%_, _^_}
 use mathlib.Core.Bool.{Bool, true, false}
 use mathlib.Core.List.{List, [], _∷_}
 use lib.Dec.{eqb}
-use lib.IntN.{ℤ, pos, negℤ, _+ℤ_}
+use lib.IntN.{ℤ, pos, natAbs, negℤ, _+ℤ_}
 use Rattle.limits.specs.Limits.{pairsMost}
+use Rattle.order.specs.Counting.{all}
 use Rattle.refusals.specs.Answers.{r4, Checks}
 use Rattle.refusals.specs.Limits.{outside}
 use Rattle.trial.specs.declared.Design.{Design}
@@ -50,3 +52,7 @@ entryOf (Paired pairs) g xs = signedSum g xs
 unfoldable pub listed : Design → ℕ → List ℤ → List ℤ
 unfolding exchangedBy
 listed (Paired pairs) g xs = exchangedBy g xs
+
+unfoldable pub untested : Design → List ℤ → Bool
+unfolding all
+untested (Paired pairs) xs = all (λ x. eqb (natAbs x) 0) xs

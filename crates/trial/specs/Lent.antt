@@ -1,5 +1,5 @@
 -- The size of a trial's table, and the table in a lent buffer. Definitions only.
---   sizeOf t                    the rows and columns of the table, with 0; or the number of the refusal, with 0 and 0
+--   sizeOf t                    the rows and columns of the table and the offers that take part, with 0; or the number of the refusal, with zeros
 --   tableCallChecks t places    of writing the table into so many places: what the record is turned away for, then 12
 --   tableCallRefusal t places   the number of the first that holds, or 0
 --   tableBuffer t buf           the buffer after the call: the table in its first places, or unchanged where the call is refused
@@ -10,13 +10,15 @@ use lib.Ieee.{Float}
 use Rattle.refusals.specs.Answers.{Checks, answer, firstRefusal, afterwards}
 use Rattle.refusals.specs.Buffers.{tooShort, written}
 use Rattle.trial.specs.Exchange.{rowTotal, tableOf}
+use Rattle.trial.specs.Aside.{liveMask}
 use Rattle.trial.specs.Refusals.{trialChecks}
 use Rattle.trial.specs.declared.TableSize.{TableSize}
 use Rattle.trial.specs.declared.Trial.{Trial}
 
 unfoldable pub sizeOf : Trial → TableSize
-unfolding answer trialChecks rowTotal
-sizeOf t = answer (trialChecks t) (record { refusal = 0; rows = rowTotal t; columns = t .shape .offers }) (λ n. record { refusal = n; rows = 0; columns = 0 })
+unfolding answer trialChecks rowTotal liveMask
+sizeOf t =
+    answer (trialChecks t) (record { refusal = 0; rows = rowTotal t; columns = t .shape .offers; live = liveMask t }) (λ n. record { refusal = n; rows = 0; columns = 0; live = 0 })
 
 unfoldable pub tableCallChecks : Trial → ℕ → Checks
 unfolding trialChecks rowTotal

@@ -1,6 +1,7 @@
 pub mod Designs
 pub mod Record
 pub mod Exchange
+pub mod Aside
 pub mod Refusals
 pub mod Lent
 pub mod Internal

@@ -3,10 +3,11 @@ use crate::Design;
 use crate::Shape;
 use limits::PAIRS_MOST;
 ghost use mathlib.Core.Path.{_≡_};
+ghost use lib.ListN.{length};
 ghost use Prim.Native.Nat.{_≤_};
 ghost use Rattle.limits.specs.Limits.{offersMost, pairsMost, figuresMost};
 ghost use Rattle.refusals.specs.Answers.{firstRefusal};
-ghost use Rattle.trial.specs.Designs.{designChecks, unitsOf, rowCount};
+ghost use Rattle.trial.specs.Designs.{designChecks, unitsOf, rowCount, untested};
 ghost use Rattle.trial.specs.Record.{figureCount};
 
 // The figures of an offer. (An enum of one variant has no tag to match on.)
@@ -40,4 +41,20 @@ pub(crate) fn figure_count(shape: Shape) -> usize
 {
     let design = shape.design;
     shape.offers * units(design)
+}
+
+// Whether an offer with these figures has not been tested: every difference is 0.
+pub(crate) fn untested(d: Design, figures: &[i32]) -> bool
+    requires { ⌜ length (now figures) ≡ unitsOf d ⌝ }
+    ensures { λ r. ⌜ r ≡ untested d (now (figures .entry)) ⌝ }
+{
+    let n = units(d);
+    let mut j: usize = 0;
+    while j < n {
+        if figures[j] != 0 {
+            return false;
+        }
+        j += 1;
+    }
+    true
 }

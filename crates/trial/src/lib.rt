@@ -2,6 +2,7 @@
 // The definitions are in specs/, their laws in proofs/.
 mod checks; // the conditions of refusals
 mod designs; // how a trial was laid out: all that goes by its cases
+mod live; // the offers that take part
 
 // Conditions that a file's values are judged by too.
 pub use checks::bad_difference;
@@ -49,11 +50,12 @@ pub struct Trial {
     pub figures: [i32; FIGURES_MOST],
 }
 
-// The size of a trial's table with the refusal 0, or the number of the refusal with 0 rows and 0 columns.
+// The size of a trial's table and the offers that take part (bit i: offer i, from 0) with the refusal 0, or the number of the refusal with zeros.
 pub struct TableSize {
     pub refusal: u32,
     pub rows: usize,
     pub columns: usize,
+    pub live: u32,
 }
 
 // The number of the refusal that a trial meets first, and 0 where it is accepted.
@@ -76,7 +78,7 @@ pub fn check(t: Trial) -> u32
     checks::figures(&figures, n)
 }
 
-// The size of a trial's table: M rows, and a column for each offer.
+// The size of a trial's table, M rows and a column for each offer, and which offers take part.
 pub fn size(t: Trial) -> TableSize
     ensures { λ r. ⌜ r ≡ sizeOf t ⌝ }
 {
@@ -86,6 +88,7 @@ pub fn size(t: Trial) -> TableSize
             refusal,
             rows: 0,
             columns: 0,
+            live: 0,
         };
     }
     let shape = t.shape;
@@ -94,5 +97,6 @@ pub fn size(t: Trial) -> TableSize
         refusal: 0,
         rows: designs::rows(design),
         columns: shape.offers,
+        live: live::mask(t),
     }
 }

@@ -2,60 +2,96 @@
 --   trial-law            an offer's figure is at most the e of the trial's own level exactly where the trial's full run rejects it
 --   trial-stays          loosening: an offer that is rejected at e is rejected at every larger one below M
 --   trial-figure-law     an offer's figure is at most e exactly where the method rejects it at e, for every e below M
---   level-aside          the level has no part in the figures: they are the same for every trial with the same shape and the same figures of each offer
+--   trial-pass           where k or more offers remain, one pass over them gives the figures
+--   trial-aside, trial-few     the figure of an offer that is set aside is M; where fewer than k offers remain every figure is
+--   one-level            the level has no part in the figures: they are the same for every trial with the same shape and the same figures of each offer
 --   trial-length, trial-most     there is a figure for each offer, and it is at most M
 use Prim.Native.Nat.{ℕ, _≤_, _<_}
-use mathlib.Core.Path.{_≡_, refl, sym, ap₂}
+use native.Mathlib.Omega.{arith}
+use mathlib.Core.Path.{_≡_, sym, ap, ap₂, _∙_, subst}
 use mathlib.Core.Logic.{_↔_}
-use mathlib.Core.List.{List, map}
-use lib.ListN.{length, getD}
+use mathlib.Core.Bool.{not}
+use mathlib.Core.List.{List, [], map}
+use lib.ListN.{length, getD, replicate}
 use lib.Dec.{T}
 use lib.IntN.{ℤ}
-use lib.Ieee.{binary64, ofInt}
+use lib.Ieee.{Float, binary64, ofInt}
 use Rattle.order.specs.Order.{plusZero}
-use Rattle.order.specs.Lists.{tabulate, joined}
+use Rattle.order.specs.Lists.{tabulate}
+use Rattle.order.proofs.Booleans.{T-true}
 use Rattle.refusals.specs.Limits.{allowance}
+use Rattle.refusals.proofs.Limits.{allowance-lt}
+use Rattle.columns.specs.Columns.{Columns, size, columnsOf, maskOf}
 use Rattle.runs.specs.FullRuns.{isRejected}
 use Rattle.runs.specs.declared.Verdict.the-variants.{Kept}
-use Rattle.adjustment.specs.Adjusted.{tableFigures}
-use Rattle.adjustment.proofs.Accepted.{Accepted, accepted}
-use Rattle.adjustment.proofs.Tables.{table-length, table-most, table-stays, table-law, table-level}
-use Rattle.trial.specs.Designs.{rowCount, entryOf}
-use Rattle.trial.specs.Exchange.{rowTotal, byOffer, rowOf, trialRows, tableOf}
+use Rattle.adjustment.specs.Adjusted.{rejectedAt, adjustedFigure, adjustedFigures}
+use Rattle.adjustment.specs.Passes.{kMaxPass}
+use Rattle.adjustment.proofs.Figures.{figure-law, figure-most, figure-aside, stays-rejected, figures-length, figures-at, figures-few}
+use Rattle.adjustment.proofs.Passing.{kMaxPass-agrees}
+use Rattle.trial.specs.Aside.{liveOffers, liveMask}
+use Rattle.trial.specs.Designs.{rowCount, entryOf, untested}
+use Rattle.trial.specs.Exchange.{rowTotal, byOffer, rowOf, trialRows}
 use Rattle.trial.specs.Refusals.{trialRefusal}
 use Rattle.trial.specs.declared.Shape.{Shape}
 use Rattle.trial.specs.declared.Trial.{Trial}
-use Rattle.trial.proofs.Calls.{known}
+use Rattle.trial.proofs.Accepted.{Accepted, accepted}
+use Rattle.trial.proofs.Aside.{live-at, live-columns, live-bit}
+use Rattle.trial.proofs.Tables.{trialRows-length, trialRows-sound, rowTotal-some}
 use Rattle.trialrun.specs.TrialRuns.{trialRun}
-use Rattle.trialrun.proofs.Runs.{table-accepted}
 use Rattle.trialadjustment.specs.TrialFigures.{rejectedOf, trialFigures}
-use Rattle.trialadjustment.proofs.Calls.{table-passes}
 
-pub level-aside : (t u : Trial) → t .shape ≡ u .shape → byOffer t ≡ byOffer u → trialFigures t ≡ trialFigures u
-unfolding trialFigures tableOf trialRows rowOf rowTotal
-level-aside t u = ap₂ (λ (s : Shape) (figures : List (List ℤ)).
-    tableFigures (joined (tabulate (rowCount (s .design)) (λ g. map (λ xs. ofInt binary64 (entryOf (s .design) g xs)) figures))) (rowCount (s .design)) (s .offers) (s .k) 0)
+pub one-level : (t u : Trial) → t .shape ≡ u .shape → byOffer t ≡ byOffer u → trialFigures t ≡ trialFigures u
+unfolding trialFigures trialRows rowOf rowTotal liveMask liveOffers
+one-level t u = ap₂ (λ (s : Shape) (figures : List (List ℤ)).
+    adjustedFigures (tabulate (rowCount (s .design)) (λ g. map (λ xs. ofInt binary64 (entryOf (s .design) g xs)) figures)) (rowCount (s .design)) (s .offers) (s .k) 0
+    (maskOf (map (λ xs. not (untested (s .design) xs)) figures)))
 
 module _ (t : Trial) where
+  abbrev X : List (List Float)
+  X = trialRows t
+
   pub trial-length : length (trialFigures t) ≡ t .shape .offers
   unfolding trialFigures
-  trial-length = table-length (tableOf t) (rowTotal t) (t .shape .offers) (t .shape .k) 0
+  trial-length = figures-length X (rowTotal t) (t .shape .offers) (t .shape .k) 0 (liveMask t)
+
+  figure-at : (i : ℕ) → i < t .shape .offers → getD (trialFigures t) i 0 ≡ adjustedFigure (trialRows t) (rowTotal t) (t .shape .offers) (t .shape .k) 0 (liveMask t) i
+  unfolding trialFigures
+  figure-at = figures-at X (rowTotal t) (t .shape .offers) (t .shape .k) 0 (liveMask t)
 
   pub trial-most : (i : ℕ) → i < t .shape .offers → getD (trialFigures t) i 0 ≤ rowTotal t
+  trial-most i h = omega (arith, figure-at i h, figure-most X (rowTotal t) (t .shape .offers) (t .shape .k) 0 (liveMask t) i)
+
+  pub trial-aside : (i : ℕ) → i < t .shape .offers → T (untested (t .shape .design) (getD (byOffer t) i [])) → getD (trialFigures t) i 0 ≡ rowTotal t
+  trial-aside i h q = figure-at i h ∙ figure-aside X (rowTotal t) (t .shape .offers) (t .shape .k) 0 (liveMask t) i h (live-bit t i h ∙ live-at t i h ∙ ap not (T-true (untested (t .shape .design) (getD (byOffer t) i [])) q))
+
+  pub trial-few : size (liveOffers t) < t .shape .k → trialFigures t ≡ replicate (t .shape .offers) (rowTotal t)
   unfolding trialFigures
-  trial-most = table-most (tableOf t) (rowTotal t) (t .shape .offers) (t .shape .k) 0
+  trial-few few = figures-few X (rowTotal t) (t .shape .offers) (t .shape .k) 0 (liveMask t) (omega (arith, ap size (live-columns t)))
 
-  module _ (ok : trialRefusal t ≡ 0) (i : ℕ) (h : i < t .shape .offers) where
-    sound : Accepted (tableOf t) (rowTotal t) (t .shape .offers) (t .shape .k) 0
-    sound = accepted (tableOf t) (rowTotal t) (t .shape .offers) (t .shape .k) 0 (table-passes t ok)
+  module _ (ok : trialRefusal t ≡ 0) where
+    acc : Accepted t
+    acc = accepted t ok
 
-    pub trial-law : (getD (trialFigures t) i 0 ≤ allowance (rowTotal t) (t .level .a) (t .level .b)) ↔ T (isRejected (getD (trialRun t .verdicts) i (Kept plusZero)))
-    unfolding trialFigures trialRun
-    trial-law = table-level (tableOf t) (rowTotal t) (t .shape .offers) (t .shape .k) (t .level .a) (t .level .b) 0 (table-accepted t (known t 0 (sym ok) refl)) i h
+    tall : rowTotal t ≡ length (trialRows t)
+    tall = sym (trialRows-length t)
 
-    pub trial-stays : (e e′ : ℕ) → e ≤ e′ → e′ < rowTotal t → T (rejectedOf t e i) → T (rejectedOf t e′ i)
-    trial-stays = table-stays (tableOf t) (rowTotal t) (t .shape .offers) (t .shape .k) 0 sound i h
+    narrow : t .shape .offers ≤ 32
+    narrow = omega (arith, acc .offers-most)
 
-    pub trial-figure-law : (e : ℕ) → e < rowTotal t → (getD (trialFigures t) i 0 ≤ e) ↔ T (rejectedOf t e i)
+    pub trial-pass : t .shape .k ≤ size (liveOffers t) → kMaxPass (t .shape .k) (trialRows t) (liveOffers t) 0 ≡ trialFigures t
     unfolding trialFigures
-    trial-figure-law = table-law (tableOf t) (rowTotal t) (t .shape .offers) (t .shape .k) 0 sound i h
+    trial-pass held =
+        ap (λ (K : Columns). kMaxPass (t .shape .k) X K 0) (sym (live-columns t))
+        ∙ kMaxPass-agrees X (rowTotal t) (t .shape .offers) (t .shape .k) 0 (liveMask t) (trialRows-sound t acc) tall (rowTotal-some t) narrow (acc .k-some) (omega (arith, ap size (live-columns t)))
+
+    module _ (i : ℕ) (h : i < t .shape .offers) where
+      pub trial-stays : (e e′ : ℕ) → e ≤ e′ → e′ < rowTotal t → T (rejectedOf t e i) → T (rejectedOf t e′ i)
+      trial-stays = stays-rejected X (rowTotal t) (t .shape .offers) (t .shape .k) 0 (liveMask t) i h (trialRows-sound t acc) tall (rowTotal-some t) narrow (acc .k-some)
+
+      pub trial-figure-law : (e : ℕ) → e < rowTotal t → (getD (trialFigures t) i 0 ≤ e) ↔ T (rejectedOf t e i)
+      trial-figure-law e rare = subst (λ (f : ℕ). (f ≤ e) ↔ T (rejectedOf t e i)) (sym (figure-at i h))
+          (figure-law X (rowTotal t) (t .shape .offers) (t .shape .k) 0 (liveMask t) i h (trialRows-sound t acc) tall (rowTotal-some t) narrow (acc .k-some) e rare)
+
+      pub trial-law : (getD (trialFigures t) i 0 ≤ allowance (rowTotal t) (t .level .a) (t .level .b)) ↔ T (isRejected (getD (trialRun t .verdicts) i (Kept plusZero)))
+      unfolding trialRun rejectedAt
+      trial-law = trial-figure-law (allowance (rowTotal t) (t .level .a) (t .level .b)) (allowance-lt (rowTotal t) (t .level .a) (t .level .b) (rowTotal-some t) (acc .levelled .proper))

@@ -9,7 +9,8 @@ ghost use Rattle.trialrun.specs.TrialRuns.{runTable, runWork};
 ghost use Rattle.trialadjustment.specs.TrialFigures.{trialFiguresAnswer};
 ghost use Rattle.trialadjustment.specs.FileFigures.{fileFigures};
 
-// The figures of a trial: of its table, with row 0 observed. The table buffer then holds the table, and the work buffer plus zero.
+// The figures of a trial: of its table, with row 0 observed and the offers set aside that have not been tested, whose figure is M. The table buffer then
+// holds the table, and the work buffer plus zero.
 pub fn trial_figures(t: Trial, table: &mut [f64], work: &mut [f64]) -> Adjusted
     ensures { λ r. ⌜ r ≡ trialFiguresAnswer t (length (now (table .entry))) (length (now (work .entry))) ⌝ }
     ensures { λ r. ⌜ now (table .exit) ≡ runTable t (now (table .entry)) (length (now (work .entry))) ⌝ }
@@ -20,7 +21,13 @@ pub fn trial_figures(t: Trial, table: &mut [f64], work: &mut [f64]) -> Adjusted
         return adjustment::refused(s.refusal);
     }
     let total = s.rows * s.columns;
-    tableadjustment::adjusted_figures(&table[..total], work, s.rows, s.columns, t.shape.k, 0)
+    engine::clear(work, s.rows);
+    let figures = figuring::all_figures(&table[..total], s.rows, s.columns, t.shape.k, 0, s.live);
+    Adjusted {
+        refusal: 0,
+        rows: s.rows,
+        figures,
+    }
 }
 
 // What a file's figures answer: `adjusted.refusal` is 0, or the number by which the file is turned away; then the trial holds nothing but zeros.

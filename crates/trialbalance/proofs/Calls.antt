@@ -2,36 +2,44 @@
 --   rankable                       the table in its buffer can be ranked
 --   few-rows                       there is a place for each row in a space for the largest trial
 --   table-room                     the table buffer, once the table is ranked, holds it
---   table-left, run-told, work-left     the table buffer, the answer and the work buffer after an accepted call
+--   table-is, table-left           the balanced table then stands at its front, and the buffer after an accepted call
+--   balanced-checked, balanced-rows     it can be run, and its rows are the balanced ones
+--   balancedRun-table              the balanced full run, by that table
+--   nothing-aside                  where no offer is set aside it is the balanced full run of the trial's table
+--   trial-counts                   its counts are those of the plain run
 use Prim.Native.Nat.{ℕ, _*_, _≤_}
 use native.Mathlib.Omega.{arith}
-use mathlib.Core.Path.{_≡_, refl, sym, ap, ap₂, _∙_}
+use mathlib.Core.Path.{_≡_, sym, ap, ap₂, _∙_}
 use mathlib.Core.List.{List, _++_}
 use lib.ListN.{length, take, drop, length-append}
 use lib.Seq.{take-at, drop-at}
 use lib.Ieee.{Float}
+use Rattle.order.specs.Lists.{rowsOf}
 use Rattle.limits.specs.Limits.{trialRowsMost}
-use Rattle.refusals.specs.Answers.{Checks, firstRefusal}
-use Rattle.refusals.specs.Buffers.{written, cleared}
-use Rattle.refusals.proofs.Answers.{accepted}
-use Rattle.runs.specs.FullRuns.{acceptedRun, refusedRun}
-use Rattle.runs.specs.declared.FullRun.{FullRun}
-use Rattle.stepdown.specs.Refusals.{tableRunChecks}
-use Rattle.stepdown.specs.Answers.{fullAnswer, fullWork}
+use Rattle.refusals.specs.Buffers.{written}
+use Rattle.refusals.specs.Limits.{allowance}
+use Rattle.columns.specs.Columns.{fullMask}
+use Rattle.masks.specs.Internal.{CheckedTable}
+use Rattle.runs.specs.Stepdown.{firstState, fullRun}
+use Rattle.runs.specs.Tables.{tableRun}
 use Rattle.stepdown.proofs.Accepted as tables
-use Rattle.balance.specs.Balance.{balancedTable}
-use Rattle.balance.proofs.Balanced.{balancedTable-length}
+use Rattle.balance.specs.Balance.{balancedRows, balancedTable}
+use Rattle.balance.proofs.Balanced.{balancedTable-length, balancedTable-rows}
 use Rattle.ranking.specs.Internal.{Rankable}
 use Rattle.tablebalance.specs.Answers.{balancedRun}
-use Rattle.tablebalance.proofs.Accepted.{balanced-runs}
-use Rattle.trial.specs.Exchange.{rowTotal, tableOf}
+use Rattle.tablebalance.proofs.Accepted.{accepted-balanced}
+use Rattle.tablebalance.proofs.Counted.{run-counts}
+use Rattle.trial.specs.Aside.{liveMask}
+use Rattle.trial.specs.Exchange.{rowTotal, trialRows, tableOf}
 use Rattle.trial.specs.declared.Trial.{Trial}
 use Rattle.trial.specs.declared.TableSize.{TableSize}
-use Rattle.trial.proofs.Tables.{tableOf-length}
-use Rattle.trialrun.specs.TrialRuns.{runSize, runTable, runWork}
-use Rattle.trialrun.proofs.Tabled.{free, rows-are, columns-are, same-total, good, work-room, filled, front, asked}
-use Rattle.trialrun.proofs.Runs.{table-accepted, table-runs}
-use Rattle.trialbalance.specs.TrialBalance.{trialBalanced, trialBalancedRun, trialBalancedAnswer, runBalanced}
+use Rattle.trial.specs.Refusals.{trialRefusal}
+use Rattle.trial.proofs.Accepted.{Accepted, accepted}
+use Rattle.trial.proofs.Tables.{trialRows-length, trialRows-sound, tableOf-length, tableOf-rows, rowTotal-some}
+use Rattle.trialrun.specs.TrialRuns.{trialStart, trialRun, runSize, runTable}
+use Rattle.trialrun.proofs.Tabled.{free, rows-are, columns-are, same-total, good, filled, front, asked}
+use Rattle.trialrun.proofs.Runs.{table-accepted}
+use Rattle.trialbalance.specs.TrialBalance.{trialBalanced, trialBalancedRun, runBalanced}
 
 module _ (t : Trial) (table work : List Float) (s : TableSize) (q : s ≡ runSize t (length table) (length work)) (w : List Float) (e : w ≡ runTable t table (length work)) (z : s .refusal ≡ 0) where
   abbrev total : ℕ
@@ -70,30 +78,39 @@ module _ (t : Trial) (table work : List Float) (s : TableSize) (q : s ≡ runSiz
         ∙ drop-at (tableOf t) (drop (length (tableOf t)) table) total table-length
         ∙ ap (λ (n : ℕ). drop n table) (table-length ∙ sym balanced-length))
 
-    table-is : take total (u ++ drop total w) ≡ trialBalanced t
+    pub table-is : take total (u ++ drop total w) ≡ trialBalanced t
     table-is = ap (take total) buffer ∙ take-at (trialBalanced t) (drop (length (trialBalanced t)) table) total balanced-length
 
     pub table-left : u ++ drop total w ≡ runBalanced t table (length work)
     unfolding runBalanced
     table-left = buffer ∙ free t table work s q w e z (written (trialBalanced t) table) (λ _. table)
 
-    abbrev checks : Checks
-    checks = tableRunChecks (trialBalanced t) (rowTotal t) (t .shape .offers) (t .shape .k) (t .level .a) (t .level .b) 0 (length work)
+-- ---- the balanced table of an accepted trial
 
-    lets : firstRefusal checks ≡ 0
-    unfolding trialBalanced
-    lets = balanced-runs (tableOf t) (rowTotal t) (t .shape .offers) (t .shape .k) (t .level .a) (t .level .b) 0 (length work) (table-runs t (good t table work s q w e z) (length work) (work-room t table work s q w e z))
+module _ (t : Trial) where
+  pub balanced-checked : Accepted t → CheckedTable (trialBalanced t) (rowTotal t) (t .shape .offers) (t .shape .k)
+  unfolding trialBalanced
+  balanced-checked acc =
+      tables.accepted-checked (balancedTable (tableOf t) (rowTotal t) (t .shape .offers)) (rowTotal t) (t .shape .offers) (t .shape .k) (t .level .a) (t .level .b) 0
+      (tables.accepted (balancedTable (tableOf t) (rowTotal t) (t .shape .offers)) (rowTotal t) (t .shape .offers) (t .shape .k) (t .level .a) (t .level .b) 0
+      (accepted-balanced (tableOf t) (rowTotal t) (t .shape .offers) (t .shape .k) (t .level .a) (t .level .b) 0 (table-accepted t acc)))
 
-    pub run-told : (g : FullRun) → g ≡ fullAnswer (take total (u ++ drop total w)) (s .rows) (s .columns) (t .shape .k) (t .level .a) (t .level .b) 0 (length work) → g ≡ trialBalancedAnswer t (length table) (length work)
-    unfolding trialBalancedAnswer trialBalancedRun trialBalanced balancedRun fullAnswer
-    run-told g v =
-        v ∙ asked t table work s q w e z (λ x m n. fullAnswer x m n (t .shape .k) (t .level .a) (t .level .b) 0 (length work)) (take total (u ++ drop total w)) (trialBalanced t) table-is
-        ∙ sym (accepted (acceptedRun (trialBalancedRun t)) refusedRun checks 0 (sym lets) refl)
-        ∙ free t table work s q w e z (acceptedRun (trialBalancedRun t)) refusedRun
+  pub balanced-rows : rowsOf (rowTotal t) (t .shape .offers) (trialBalanced t) ≡ balancedRows (trialRows t)
+  unfolding trialBalanced
+  balanced-rows = balancedTable-rows (tableOf t) (rowTotal t) (t .shape .offers) (tableOf-length t) ∙ ap balancedRows (tableOf-rows t)
 
-    pub work-left : (v : List Float) → v ≡ fullWork (take total (u ++ drop total w)) (s .rows) (s .columns) (t .shape .k) (t .level .a) (t .level .b) 0 work → v ≡ runWork t (length table) work
-    unfolding runWork fullWork
-    work-left v p =
-        p ∙ asked t table work s q w e z (λ x m n. fullWork x m n (t .shape .k) (t .level .a) (t .level .b) 0 work) (take total (u ++ drop total w)) (trialBalanced t) table-is
-        ∙ sym (accepted (cleared (rowTotal t) work) (λ _. work) checks 0 (sym lets) refl)
-        ∙ free t table work s q w e z (cleared (rowTotal t) work) (λ _. work)
+  pub balancedRun-table : trialBalancedRun t ≡ fullRun (rowsOf (rowTotal t) (t .shape .offers) (trialBalanced t)) (trialStart t)
+  unfolding trialBalancedRun
+  balancedRun-table = ap (λ (X : List (List Float)). fullRun X (trialStart t)) (sym balanced-rows)
+
+  pub nothing-aside : liveMask t ≡ fullMask (t .shape .offers) → trialBalancedRun t ≡ balancedRun (tableOf t) (rowTotal t) (t .shape .offers) (t .shape .k) (t .level .a) (t .level .b) 0
+  unfolding trialBalanced balancedRun tableRun
+  nothing-aside h =
+      balancedRun-table
+      ∙ ap (λ (live : ℕ). fullRun (rowsOf (rowTotal t) (t .shape .offers) (trialBalanced t)) (firstState (rowTotal t) (t .shape .offers) (t .shape .k) (allowance (rowTotal t) (t .level .a) (t .level .b)) 0 live)) h
+
+  pub trial-counts : trialRefusal t ≡ 0 → trialBalancedRun t .counts ≡ trialRun t .counts
+  unfolding trialBalancedRun trialRun rowTotal
+  trial-counts ok =
+      let acc = accepted t ok in
+      run-counts (trialRows t) (trialStart t) (trialRows-sound t acc) (omega (arith, trialRows-length t, acc .laid .rows-most)) (omega (arith, trialRows-length t, rowTotal-some t))

@@ -4,22 +4,25 @@
 --   answer-same           answer of a call for it
 --   runBalanced-same      table buffer after it; the work buffer is that of a plain run (trialrun/proofs/Unused.antt)
 use Prim.Native.Nat.{ℕ}
-use mathlib.Core.Path.{_≡_, ap, ap₂, _∙_}
+use mathlib.Core.Path.{_≡_, sym, ap, ap₂, _∙_}
 use mathlib.Core.List.{List}
 use lib.ListN.{length}
 use lib.Ieee.{Float}
+use Rattle.order.specs.Lists.{rowsOf}
 use Rattle.refusals.specs.Answers.{Checks, answer, afterwards}
 use Rattle.refusals.specs.Buffers.{written}
-use Rattle.runs.specs.Stepdown.{Outcome}
+use Rattle.refusals.specs.Limits.{allowance}
+use Rattle.runs.specs.Stepdown.{firstState, Outcome, fullRun}
 use Rattle.runs.specs.FullRuns.{acceptedRun, refusedRun}
 use Rattle.balance.specs.Balance.{balancedTable}
-use Rattle.tablebalance.specs.Answers.{balancedRun}
+use Rattle.trial.specs.Aside.{liveMask}
 use Rattle.trial.specs.Exchange.{rowTotal, tableOf}
 use Rattle.trial.specs.Record.{Contents, Same}
 use Rattle.trial.specs.declared.Trial.{Trial}
-use Rattle.trial.proofs.Unused.{offers-same, table-same, rows-same}
+use Rattle.trial.proofs.Unused.{offers-same, table-same, rows-same, live-same}
 use Rattle.trialrun.proofs.Unused.{asked-same}
 use Rattle.trialbalance.specs.TrialBalance.{trialBalanced, trialBalancedRun, trialBalancedAnswer, runBalanced}
+use Rattle.trialbalance.proofs.Calls.{balancedRun-table}
 
 module _ (t u : Trial) (s : Same t u) where
   pub balanced-same : trialBalanced t ≡ trialBalanced u
@@ -27,8 +30,12 @@ module _ (t u : Trial) (s : Same t u) where
   balanced-same = ap₂ (λ (x : List Float) (m : ℕ). balancedTable x m (t .shape .offers)) (table-same t u s) (rows-same t u s) ∙ ap (balancedTable (tableOf u) (rowTotal u)) (offers-same t u s)
 
   pub run-same : trialBalancedRun t ≡ trialBalancedRun u
-  unfolding trialBalancedRun
-  run-same = ap₂ (λ (x : List Float) (m : ℕ). balancedRun x m (t .shape .offers) (t .shape .k) (t .level .a) (t .level .b) 0) (table-same t u s) (rows-same t u s) ∙ ap (λ (c : Contents). balancedRun (tableOf u) (rowTotal u) (c .setting .shape .offers) (c .setting .shape .k) (c .setting .level .a) (c .setting .level .b) 0) s
+  run-same =
+      balancedRun-table t
+      ∙ ap₂ (λ (x : List Float) (m : ℕ). fullRun (rowsOf m (t .shape .offers) x) (firstState m (t .shape .offers) (t .shape .k) (allowance m (t .level .a) (t .level .b)) 0 (liveMask t))) balanced-same (rows-same t u s)
+      ∙ ap₂ (λ (c : Contents) (live : ℕ). let h = c .setting in
+      fullRun (rowsOf (rowTotal u) (h .shape .offers) (trialBalanced u)) (firstState (rowTotal u) (h .shape .offers) (h .shape .k) (allowance (rowTotal u) (h .level .a) (h .level .b)) 0 live)) s (live-same t u s)
+      ∙ sym (balancedRun-table u)
 
   pub answer-same : (places work : ℕ) → trialBalancedAnswer t places work ≡ trialBalancedAnswer u places work
   unfolding trialBalancedAnswer

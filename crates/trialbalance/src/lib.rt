@@ -10,7 +10,8 @@ ghost use Rattle.trialrun.specs.TrialRuns.{runWork};
 ghost use Rattle.trialbalance.specs.TrialBalance.{trialBalancedAnswer, runBalanced};
 ghost use Rattle.trialbalance.specs.FileBalance.{fileBalancedRun};
 
-// The full run of a trial's balanced table, with row 0 observed. The table buffer then holds the balanced table, and the work buffer plus zero.
+// The full run of a trial's balanced table, with row 0 observed and the offers set aside that have not been tested. The table buffer then holds the
+// balanced table, and the work buffer plus zero.
 pub fn balanced_run(t: Trial, table: &mut [f64], work: &mut [f64]) -> FullRun
     ensures { λ r. ⌜ r ≡ trialBalancedAnswer t (length (now (table .entry))) (length (now (work .entry))) ⌝ }
     ensures { λ r. ⌜ now (table .exit) ≡ runBalanced t (now (table .entry)) (length (now (work .entry))) ⌝ }
@@ -32,15 +33,16 @@ pub fn balanced_run(t: Trial, table: &mut [f64], work: &mut [f64]) -> FullRun
         &mut order[..s.rows],
         &mut spare[..s.rows],
     );
-    stepdown::full_run(
+    let e = engine::allowance(s.rows, t.level.a, t.level.b);
+    engine::full_run(
         &table[..total],
         work,
         s.rows,
         s.columns,
         t.shape.k,
-        t.level.a,
-        t.level.b,
+        e,
         0,
+        s.live,
     )
 }
 

@@ -1,5 +1,6 @@
 pub mod Tabled
 pub mod Runs
+pub mod Aside
 pub mod Files
 pub mod Unused
 pub mod Examples

@@ -1,40 +1,47 @@
--- The full run of a trial: its table is accepted, so the run is that of the table.
---   table-accepted, table-runs     the table of an accepted trial is an accepted one, whatever the work buffer's places, if they are enough
---   trial-run, trial-work          the full run of the table in its buffer
+-- The full run of a trial: its table is accepted, so it can be run over the offers that are not set aside.
+--   table-accepted, table-checked  the table of an accepted trial is an accepted one
+--   level-known, startable         what the engine asks for: a level, and a table in the trial's buffer
+--   told, left                     what its full run tells and leaves, of the trial's table or of one in its place
+--   trialRun-table                 the full run of a trial, by its table
+--   nothing-aside                  where no offer is set aside it is the full run of the table
 --   run-sizes                      M and e of the full run: the rows of the trial's table, and floor(M × a/b)
-use Prim.Native.Nat.{ℕ, _*_, _≤_}
+use Prim.Native.Nat.{ℕ, _*_, _^_, _≤_, _<_}
 use native.Mathlib.Omega.{arith}
-use mathlib.Core.Path.{_≡_, refl, sym, ap}
+use mathlib.Core.Path.{_≡_, refl, sym, ap, ap₂, _∙_}
 use mathlib.Core.Bool.{false, not}
 use mathlib.Core.List.{List}
-use lib.ListN.{length, take}
+use lib.ListN.{length}
 use lib.Ieee.{Float}
 use borrow.Author.Tests.{le-ltb, lt-leb, eq-eqb}
 use Rattle.order.specs.Order.{finite}
 use Rattle.order.specs.Counting.{all}
+use Rattle.order.specs.Lists.{rowsOf}
 use Rattle.order.proofs.Booleans.{T-true, not-no}
 use Rattle.order.proofs.Lists.{joined-all}
 use Rattle.order.proofs.Rows.{sound-all}
-use Rattle.limits.specs.Limits.{toleranceMost, trialRowsMost}
-use Rattle.refusals.specs.Answers.{Checks}
+use Rattle.limits.specs.Limits.{toleranceMost, trialRowsMost, tableRowsMost}
+use Rattle.refusals.specs.Answers.{answer}
 use Rattle.refusals.specs.Buffers.{cleared}
-use Rattle.refusals.specs.Limits.{badSizes, allowance}
-use Rattle.refusals.proofs.Answers.{none-first, accepted}
-use Rattle.refusals.proofs.Buffers.{lent-passes}
-use Rattle.refusals.proofs.Limits.{neither, within}
-use Rattle.runs.specs.Stepdown.{fullRun}
+use Rattle.refusals.specs.Limits.{badSizes, badLevel, allowance}
+use Rattle.refusals.proofs.Answers.{none-first}
+use Rattle.refusals.proofs.Limits.{neither, within, allowance-lt}
+use Rattle.columns.specs.Columns.{fullMask}
+use Rattle.masks.specs.Internal.{CheckedTable}
+use Rattle.runs.specs.Stepdown.{firstState, fullRun}
 use Rattle.runs.specs.FullRuns.{acceptedRun, refusedRun}
 use Rattle.runs.specs.Tables.{tableRun}
 use Rattle.runs.specs.declared.FullRun.{FullRun}
-use Rattle.stepdown.specs.Refusals.{badShape, badValue, tableChecks, tableRefusal, tableRunChecks, tableRunRefusal}
-use Rattle.stepdown.specs.Answers.{fullAnswer, fullWork}
+use Rattle.stepdown.specs.Refusals.{badShape, badValue, tableChecks, tableRefusal}
+use Rattle.stepdown.proofs.Accepted as tables
+use Rattle.trial.specs.Aside.{liveMask}
 use Rattle.trial.specs.Exchange.{rowTotal, trialRows, tableOf}
 use Rattle.trial.specs.declared.Trial.{Trial}
 use Rattle.trial.specs.declared.TableSize.{TableSize}
 use Rattle.trial.proofs.Accepted.{Accepted}
-use Rattle.trial.proofs.Tables.{trialRows-sound, rowTotal-some, tableOf-length}
-use Rattle.trialrun.specs.TrialRuns.{trialRun, runSize, runTable, runWork, trialAnswer}
-use Rattle.trialrun.proofs.Tabled.{good, work-room, call-done}
+use Rattle.trial.proofs.Aside.{live-fits}
+use Rattle.trial.proofs.Tables.{trialRows-sound, rowTotal-some, tableOf-length, tableOf-rows}
+use Rattle.trialrun.specs.TrialRuns.{trialStart, trialRun, runCallChecks, runSize, runTable, runWork}
+use Rattle.trialrun.proofs.Tabled.{good, rows-are, columns-are, live-is, work-room, free, asked}
 
 -- ---- the table of an accepted trial
 
@@ -59,29 +66,55 @@ module _ (t : Trial) (a : Accepted t) where
       none-first (tableChecks (tableOf t) (rowTotal t) (t .shape .offers) (t .shape .k) (t .level .a) (t .level .b) 0)
       (shape-good, (a .level-good, (not-no _ (eq-eqb (length (tableOf t)) (rowTotal t * t .shape .offers) (tableOf-length t)), (lt-leb (rowTotal t) 0 (rowTotal-some t), (values-good, tt)))))
 
-  pub table-runs : (places : ℕ) → rowTotal t ≤ places → tableRunRefusal (tableOf t) (rowTotal t) (t .shape .offers) (t .shape .k) (t .level .a) (t .level .b) 0 places ≡ 0
-  unfolding tableRunRefusal tableRefusal tableChecks all
-  table-runs places h = lent-passes (tableChecks (tableOf t) (rowTotal t) (t .shape .offers) (t .shape .k) (t .level .a) (t .level .b) 0) places (rowTotal t) table-accepted h
-
--- ---- the full run of the table in its buffer
+-- ---- the full run of a table in the trial's buffer
 
 module _ (t : Trial) (table work : List Float) (s : TableSize) (q : s ≡ runSize t (length table) (length work)) (w : List Float) (e : w ≡ runTable t table (length work)) (z : s .refusal ≡ 0) where
-  free : tableRunRefusal (tableOf t) (rowTotal t) (t .shape .offers) (t .shape .k) (t .level .a) (t .level .b) 0 (length work) ≡ 0
-  free = table-runs t (good t table work s q w e z) (length work) (work-room t table work s q w e z)
+  acc : Accepted t
+  acc = good t table work s q w e z
 
-  abbrev checks : Checks
-  checks = tableRunChecks (tableOf t) (rowTotal t) (t .shape .offers) (t .shape .k) (t .level .a) (t .level .b) 0 (length work)
+  pub level-known : (s .rows ≤ tableRowsMost) × (badLevel (t .level .a) (t .level .b) ≡ false)
+  level-known = (omega (arith, rows-are t table work s q w e z, rows-most t acc), acc .level-good)
 
-  pub trial-run : (r : FullRun) → r ≡ fullAnswer (take (s .rows * s .columns) w) (s .rows) (s .columns) (t .shape .k) (t .level .a) (t .level .b) 0 (length work) → r ≡ trialAnswer t (length table) (length work)
-  unfolding trialAnswer fullAnswer trialRun tableRunRefusal
-  trial-run = call-done t table work s q w e z (λ x m n. fullAnswer x m n (t .shape .k) (t .level .a) (t .level .b) 0 (length work)) (acceptedRun (trialRun t)) refusedRun (sym (accepted (acceptedRun (trialRun t)) refusedRun checks 0 (sym free) refl))
+  -- x is the table of the trial, or one of its size that stands in its place; n is e
+  module _ (n : ℕ) (l : n ≡ allowance (s .rows) (t .level .a) (t .level .b)) (x : List Float) (y : List Float) (p : x ≡ y) where
+    pub startable : CheckedTable y (rowTotal t) (t .shape .offers) (t .shape .k) → CheckedTable x (s .rows) (s .columns) (t .shape .k) × (n < s .rows) × (0 < s .rows) × (s .live < 2 ^ (s .columns)) × (s .rows ≤ length work)
+    startable ready = rw (p, l, rows-are t table work s q w e z, columns-are t table work s q w e z, live-is t table work s q w e z)
+        (ready, allowance-lt (rowTotal t) (t .level .a) (t .level .b) (rowTotal-some t) (acc .levelled .proper), rowTotal-some t, live-fits t, work-room t table work s q w e z)
 
-  pub trial-work : (v : List Float) → v ≡ fullWork (take (s .rows * s .columns) w) (s .rows) (s .columns) (t .shape .k) (t .level .a) (t .level .b) 0 work → v ≡ runWork t (length table) work
-  unfolding fullWork runWork tableRunRefusal
-  trial-work = call-done t table work s q w e z (λ x m n. fullWork x m n (t .shape .k) (t .level .a) (t .level .b) 0 work) (cleared (rowTotal t) work) (λ _. work) (sym (accepted (cleared (rowTotal t) work) (λ _. work) checks 0 (sym free) refl))
+    started : (X : List (List Float)) → rowsOf (rowTotal t) (t .shape .offers) y ≡ X
+        → fullRun (rowsOf (s .rows) (s .columns) x) (firstState (s .rows) (s .columns) (t .shape .k) n 0 (s .live)) ≡ fullRun X (trialStart t)
+    started X r =
+        ap₂ (λ (m v : ℕ). fullRun (rowsOf (s .rows) (s .columns) x) (firstState (s .rows) (s .columns) (t .shape .k) m 0 v)) l (live-is t table work s q w e z)
+        ∙ asked t table work s q w e z (λ u rows columns. fullRun (rowsOf rows columns u) (firstState rows columns (t .shape .k) (allowance rows (t .level .a) (t .level .b)) 0 (liveMask t))) x y p
+        ∙ ap (λ (Y : List (List Float)). fullRun Y (trialStart t)) r
+
+    pub told : (X : List (List Float)) → rowsOf (rowTotal t) (t .shape .offers) y ≡ X → (f : FullRun) → f ≡ acceptedRun (fullRun (rowsOf (s .rows) (s .columns) x) (firstState (s .rows) (s .columns) (t .shape .k) n 0 (s .live)))
+        → f ≡ answer (runCallChecks t (length table) (length work)) (acceptedRun (fullRun X (trialStart t))) refusedRun
+    told X r f v = v ∙ ap acceptedRun (started X r) ∙ free t table work s q w e z (acceptedRun (fullRun X (trialStart t))) refusedRun
+
+  pub left : (v : List Float) → v ≡ cleared (s .rows) work → v ≡ runWork t (length table) work
+  unfolding runWork
+  left v p = p ∙ ap (λ (m : ℕ). cleared m work) (rows-are t table work s q w e z) ∙ free t table work s q w e z (cleared (rowTotal t) work) (λ _. work)
+
+-- ---- the full run of the table itself
+
+pub table-checked : (t : Trial) → Accepted t → CheckedTable (tableOf t) (rowTotal t) (t .shape .offers) (t .shape .k)
+table-checked t a =
+    tables.accepted-checked (tableOf t) (rowTotal t) (t .shape .offers) (t .shape .k) (t .level .a) (t .level .b) 0
+    (tables.accepted (tableOf t) (rowTotal t) (t .shape .offers) (t .shape .k) (t .level .a) (t .level .b) 0 (table-accepted t a))
+
+pub trialRun-table : (t : Trial) → trialRun t ≡ fullRun (rowsOf (rowTotal t) (t .shape .offers) (tableOf t)) (trialStart t)
+unfolding trialRun
+trialRun-table t = ap (λ (X : List (List Float)). fullRun X (trialStart t)) (sym (tableOf-rows t))
+
+pub nothing-aside : (t : Trial) → liveMask t ≡ fullMask (t .shape .offers) → trialRun t ≡ tableRun (tableOf t) (rowTotal t) (t .shape .offers) (t .shape .k) (t .level .a) (t .level .b) 0
+unfolding tableRun
+nothing-aside t h =
+    trialRun-table t
+    ∙ ap (λ (live : ℕ). fullRun (rowsOf (rowTotal t) (t .shape .offers) (tableOf t)) (firstState (rowTotal t) (t .shape .offers) (t .shape .k) (allowance (rowTotal t) (t .level .a) (t .level .b)) 0 live)) h
 
 -- ---- the sizes that a full run tells
 
 pub run-sizes : (t : Trial) → let r = acceptedRun (trialRun t) in (r .rows ≡ rowTotal t) × (r .e ≡ allowance (rowTotal t) (t .level .a) (t .level .b))
-unfolding acceptedRun trialRun tableRun fullRun
+unfolding acceptedRun trialRun fullRun
 run-sizes t = (refl, refl)

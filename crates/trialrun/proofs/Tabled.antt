@@ -4,7 +4,7 @@
 --   total-fits                     the table of an accepted trial is small
 --   Left, call-turned              a refused call of any kind, with both buffers
 --   free                           an accepted one of any kind
---   ok, good, rows-are, columns-are, same-total, small     what is known of its trial, and the size that was told
+--   ok, good, rows-are, columns-are, live-is, same-total, small     what is known of its trial, and the size that was told
 --   work-room, room, filled, front                         both buffers, and the table in its own
 --   asked, call-done               what is asked of that table
 use Prim.Native.Nat.{ℕ, _*_, _≤_, _<_}
@@ -20,6 +20,7 @@ use Rattle.refusals.specs.Answers.{Checks, answer, firstRefusal, afterwards}
 use Rattle.refusals.specs.Buffers.{tooShort, written, cleared}
 use Rattle.refusals.proofs.Answers.{none-holds, both-pass, answer-append, answer-map, accepted, refused}
 use Rattle.refusals.proofs.Buffers.{lent-short, lent-enough}
+use Rattle.trial.specs.Aside.{liveMask}
 use Rattle.trial.specs.Exchange.{rowTotal, tableOf}
 use Rattle.trial.specs.Lent.{sizeOf, tableCallChecks, tableBuffer}
 use Rattle.trial.specs.Refusals.{trialChecks, trialRefusal}
@@ -71,7 +72,7 @@ module _ (t : Trial) (s : TableSize) (q : s ≡ sizeOf t) where
     Tabled r w = (r ≡ runSize t (length table) work) × (w ≡ runTable t table work)
 
     abbrev size : TableSize
-    size = record { refusal = 0; rows = rowTotal t; columns = t .shape .offers }
+    size = record { refusal = 0; rows = rowTotal t; columns = t .shape .offers; live = liveMask t }
 
     pub tabled-turned : (s .refusal ≡ 0 → ⊥) → Tabled s table
     unfolding runSize runTable
@@ -110,7 +111,7 @@ module _ (t : Trial) (table work : List Float) (s : TableSize) (q : s ≡ runSiz
 
   number-is : s .refusal ≡ firstRefusal checks
   unfolding runSize firstRefusal
-  number-is = ap (λ (x : TableSize). x .refusal) q ∙ answer-map (λ (x : TableSize). x .refusal) checks (record { refusal = 0; rows = rowTotal t; columns = t .shape .offers }) refusedSize
+  number-is = ap (λ (x : TableSize). x .refusal) q ∙ answer-map (λ (x : TableSize). x .refusal) checks (record { refusal = 0; rows = rowTotal t; columns = t .shape .offers; live = liveMask t }) refusedSize
 
   -- whatever an accepted call puts into the table buffer
   module _ {A : Type 0} (done : A) (refusing : ℕ → A) (new : List Float) where
@@ -131,15 +132,18 @@ module _ (t : Trial) (table work : List Float) (s : TableSize) (q : s ≡ runSiz
     pub free : {A : Type 0} (done : A) (refusing : ℕ → A) → done ≡ answer checks done refusing
     free done refusing = accepted done refusing checks (s .refusal) number-is z
 
-    full : s ≡ record { refusal = 0; rows = rowTotal t; columns = t .shape .offers }
+    full : s ≡ record { refusal = 0; rows = rowTotal t; columns = t .shape .offers; live = liveMask t }
     unfolding runSize
-    full = q ∙ sym (free (record { refusal = 0; rows = rowTotal t; columns = t .shape .offers }) refusedSize)
+    full = q ∙ sym (free (record { refusal = 0; rows = rowTotal t; columns = t .shape .offers; live = liveMask t }) refusedSize)
 
     pub rows-are : s .rows ≡ rowTotal t
     rows-are = ap (λ (x : TableSize). x .rows) full
 
     pub columns-are : s .columns ≡ t .shape .offers
     columns-are = ap (λ (x : TableSize). x .columns) full
+
+    pub live-is : s .live ≡ liveMask t
+    live-is = ap (λ (x : TableSize). x .live) full
 
     pub same-total : s .rows * s .columns ≡ rowTotal t * t .shape .offers
     same-total = ap₂ (λ (m n : ℕ). m * n) rows-are columns-are

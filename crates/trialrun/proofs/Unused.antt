@@ -4,26 +4,33 @@
 --   answer-same                      answer of a call for the full run
 --   runTable-same, runWork-same      buffers after it
 use Prim.Native.Nat.{ℕ, _*_}
-use mathlib.Core.Path.{_≡_, ap, ap₂, _∙_}
+use mathlib.Core.Path.{_≡_, sym, ap, ap₂, _∙_}
 use mathlib.Core.List.{List, _++_}
 use lib.ListN.{length}
 use lib.Ieee.{Float}
+use Rattle.order.specs.Lists.{rowsOf}
 use Rattle.refusals.specs.Answers.{Checks, answer, afterwards}
 use Rattle.refusals.specs.Buffers.{tooShort, written, cleared}
-use Rattle.runs.specs.Stepdown.{Outcome}
+use Rattle.refusals.specs.Limits.{allowance}
+use Rattle.runs.specs.Stepdown.{firstState, Outcome, fullRun}
 use Rattle.runs.specs.FullRuns.{acceptedRun, refusedRun}
-use Rattle.runs.specs.Tables.{tableRun}
+use Rattle.trial.specs.Aside.{liveMask}
 use Rattle.trial.specs.Exchange.{rowTotal, tableOf}
 use Rattle.trial.specs.Refusals.{trialChecks}
 use Rattle.trial.specs.Record.{Contents, Same}
 use Rattle.trial.specs.declared.Trial.{Trial}
-use Rattle.trial.proofs.Unused.{offers-same, checks-same, table-same, rows-same}
+use Rattle.trial.proofs.Unused.{offers-same, checks-same, table-same, rows-same, live-same}
 use Rattle.trialrun.specs.TrialRuns.{trialRun, runCallChecks, trialAnswer, runTable, runWork}
+use Rattle.trialrun.proofs.Runs.{trialRun-table}
 
 module _ (t u : Trial) (s : Same t u) where
   pub run-same : trialRun t ≡ trialRun u
-  unfolding trialRun
-  run-same = ap₂ (λ (x : List Float) (m : ℕ). tableRun x m (t .shape .offers) (t .shape .k) (t .level .a) (t .level .b) 0) (table-same t u s) (rows-same t u s) ∙ ap (λ (c : Contents). tableRun (tableOf u) (rowTotal u) (c .setting .shape .offers) (c .setting .shape .k) (c .setting .level .a) (c .setting .level .b) 0) s
+  run-same =
+      trialRun-table t
+      ∙ ap₂ (λ (x : List Float) (m : ℕ). fullRun (rowsOf m (t .shape .offers) x) (firstState m (t .shape .offers) (t .shape .k) (allowance m (t .level .a) (t .level .b)) 0 (liveMask t))) (table-same t u s) (rows-same t u s)
+      ∙ ap₂ (λ (c : Contents) (live : ℕ). let h = c .setting in
+      fullRun (rowsOf (rowTotal u) (h .shape .offers) (tableOf u)) (firstState (rowTotal u) (h .shape .offers) (h .shape .k) (allowance (rowTotal u) (h .level .a) (h .level .b)) 0 live)) s (live-same t u s)
+      ∙ sym (trialRun-table u)
 
   pub asked-same : (places work : ℕ) → runCallChecks t places work ≡ runCallChecks u places work
   asked-same places work =

@@ -17,11 +17,12 @@ fn refused_size(refusal: u32) -> TableSize
         refusal,
         rows: 0,
         columns: 0,
+        live: 0,
     }
 }
 
-// The table of a trial into the first places of a lent buffer, for a run with a work buffer of so many places. Answers its size, or the number of the
-// refusal, that of the record or 12 for either buffer, and then the buffer is unchanged.
+// The table of a trial into the first places of a lent buffer, for a run with a work buffer of so many places. Answers its size with
+// the live offers, or the number of the refusal, that of the record or 12 for either buffer, and then the buffer is unchanged.
 pub fn table_for_run(t: Trial, table: &mut [f64], work: usize) -> TableSize
     ensures { λ r. ⌜ r ≡ runSize t (length (now (table .entry))) work ⌝ }
     ensures { λ r. ⌜ now (table .exit) ≡ runTable t (now (table .entry)) work ⌝ }
@@ -40,7 +41,8 @@ pub fn table_for_run(t: Trial, table: &mut [f64], work: usize) -> TableSize
     s
 }
 
-// The full run of a trial: of its table, with row 0 observed. The table buffer then holds the table, and the work buffer plus zero.
+// The full run of a trial: of its table, with row 0 observed and the offers set aside that have not been tested. The table buffer then holds the table,
+// and the work buffer plus zero.
 pub fn full_run(t: Trial, table: &mut [f64], work: &mut [f64]) -> FullRun
     ensures { λ r. ⌜ r ≡ trialAnswer t (length (now (table .entry))) (length (now (work .entry))) ⌝ }
     ensures { λ r. ⌜ now (table .exit) ≡ runTable t (now (table .entry)) (length (now (work .entry))) ⌝ }
@@ -51,15 +53,16 @@ pub fn full_run(t: Trial, table: &mut [f64], work: &mut [f64]) -> FullRun
         return runs::refused(s.refusal);
     }
     let total = s.rows * s.columns;
-    stepdown::full_run(
+    let e = engine::allowance(s.rows, t.level.a, t.level.b);
+    engine::full_run(
         &table[..total],
         work,
         s.rows,
         s.columns,
         t.shape.k,
-        t.level.a,
-        t.level.b,
+        e,
         0,
+        s.live,
     )
 }
 

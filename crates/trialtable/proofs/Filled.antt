@@ -1,45 +1,28 @@
 -- What the code fills is the table of the trial.
---   byOffer-figures                  the figures of each offer, in the array
 --   table-pairs                      the table of a paired trial is one of signed sums
 --   tableOf-sums                     and is the table that the code fills
 --   figures-ranged                   the figures of an accepted trial are in range
-use Prim.Native.Nat.{ℕ, zero, suc, _+_, _*_, _≤_}
+use Prim.Native.Nat.{ℕ, _*_, _≤_}
 use native.Mathlib.Omega.{arith}
-use native.Mathlib.Nat.{suc-mul}
-use mathlib.Core.Path.{_≡_, refl, ap, ap₂, _∙_, subst}
-use mathlib.Core.List.{List, _∷_, map}
-use lib.ListN.{length, take, drop}
-use lib.Seq.{take-take, length-take-le, getD-take}
+use mathlib.Core.Path.{_≡_, refl, ap, _∙_, subst}
+use mathlib.Core.List.{List, map}
+use lib.ListN.{length}
+use lib.Seq.{length-take-le, getD-take}
 use lib.IntN.{ℤ, pos, natAbs}
 use lib.Ieee.{binary64, ofInt}
 use Rattle.limits.specs.Limits.{differenceMost}
 use Rattle.order.specs.Lists.{tabulate, rowsOf, joined}
 use Rattle.trial.specs.Designs.{unitsOf, rowCount, entryOf}
 use Rattle.trial.specs.Record.{figureCount, figuresOf}
-use Rattle.trial.specs.Exchange.{byOffer, rowTotal, rowOf, trialRows, tableOf}
+use Rattle.trial.specs.Exchange.{rowTotal, rowOf, trialRows, tableOf}
 use Rattle.trial.specs.Internal.{Ranged}
 use Rattle.trial.specs.declared.Design.{Design}
 use Rattle.trial.specs.declared.Design.the-variants.{Paired}
 use Rattle.trial.specs.declared.Trial.{Trial}
 use Rattle.trial.proofs.Sums.{all-in-range}
 use Rattle.trial.proofs.Accepted.{Accepted}
-use Rattle.trial.proofs.Tables.{drop-take}
+use Rattle.trial.proofs.Tables.{byOffer-figures}
 use Rattle.trialtable.specs.Internal.{sumsTable}
-
--- the figures that are used, offer by offer
-rowsOf-take : {A : Type 0} (m n : ℕ) (xs : List A) → rowsOf m n (take (m * n) xs) ≡ rowsOf m n xs
-unfolding rowsOf
-rowsOf-take zero n xs = refl
-rowsOf-take (suc m) n xs =
-    ap₂ (λ (r : List _) (rs : List (List _)). r ∷ rs) (take-take n (suc m * n) xs (omega (arith, suc-mul m n)))
-    (ap (rowsOf m n) (ap (λ (i : ℕ). drop n (take i xs)) sum ∙ drop-take n (m * n) xs) ∙ rowsOf-take m n (drop n xs))
-  where
-    sum : suc m * n ≡ n + m * n
-    sum = omega (arith, suc-mul m n)
-
-pub byOffer-figures : (t : Trial) → byOffer t ≡ rowsOf (t .shape .offers) (unitsOf (t .shape .design)) (t .figures)
-unfolding byOffer figureCount
-byOffer-figures t = rowsOf-take (t .shape .offers) (unitsOf (t .shape .design)) (t .figures)
 
 pub table-pairs : (d : Design) (offers : ℕ) (xs : List ℤ)
     → joined (tabulate (rowCount d) (λ g. map (λ x. ofInt binary64 (entryOf d g x)) (rowsOf offers (unitsOf d) xs))) ≡ sumsTable (unitsOf d) offers xs

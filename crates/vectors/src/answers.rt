@@ -32,12 +32,13 @@ pub(crate) fn record(p: Pen, r: Record) -> Pen {
     pen::put(q, bits::of(r.critical))
 }
 
-// A verdict: the rejecting step or 0, as the verdict tells it and as the library does, and the critical value.
+// A verdict: its number (the rejecting step, 0 for kept, 255 for set aside), as the library tells it and as its case does, and the critical value, plus zero where it has none.
 fn verdict(p: Pen, v: Verdict) -> Pen {
-    let q = pen::put(p, verdicts::rejecting_step(v));
+    let q = pen::put(p, verdicts::verdict_byte(v));
     match v {
         Verdict::Rejected(step, critical) => pen::put(pen::put(q, step), bits::of(critical)),
         Verdict::Kept(critical) => pen::put(pen::put(q, 0), bits::of(critical)),
+        Verdict::Aside => pen::put(pen::put(q, 255), bits::of(0.0)),
     }
 }
 

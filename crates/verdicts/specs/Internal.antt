@@ -1,11 +1,11 @@
 -- Definitions that only private functions cite: here those of crate host. Definitions only; a reader of the promises needs none of them.
---   smallSteps ds      no rejecting step is above 32
+--   smallBytes ds      the number that tells a verdict fits a byte
 use mathlib.Core.Bool.{Bool}
 use mathlib.Core.List.{List}
 use lib.Dec.{leb}
 use Rattle.order.specs.Counting.{all}
-use Rattle.runs.specs.FullRuns.{rejectingStep}
 use Rattle.runs.specs.declared.Decision.{Decision}
+use Rattle.verdicts.specs.Verdicts.{verdictByte}
 
-abbrev pub smallSteps : List Decision → Bool
-smallSteps ds = all (λ d. leb (rejectingStep (d .verdict)) 32) ds
+abbrev pub smallBytes : List Decision → Bool
+smallBytes ds = all (λ d. leb (verdictByte (d .verdict)) 255) ds

@@ -1,19 +1,20 @@
-// What is read off the verdicts of a full run: which step rejected, and how many are rejected. The report and the C calls tell these.
+// What is read off the verdicts of a full run: the number that tells one, and how many are rejected. The report and the C calls tell these.
 use runs::Decision;
 use runs::Verdict;
 ghost use mathlib.Core.Path.{_≡_};
 ghost use Prim.Native.Nat.{_≤_};
 ghost use Rattle.order.specs.Counting.{bit};
-ghost use Rattle.runs.specs.FullRuns.{isRejected, rejectingStep};
-ghost use Rattle.verdicts.specs.Verdicts.{rejectedCount};
+ghost use Rattle.runs.specs.FullRuns.{isRejected};
+ghost use Rattle.verdicts.specs.Verdicts.{verdictByte, rejectedCount};
 
-// The step that rejected, and 0 where the verdict is kept.
-pub fn rejecting_step(v: Verdict) -> usize
-    ensures { λ r. ⌜ r ≡ rejectingStep v ⌝ }
+// The step that rejected; 0 where the verdict is kept, and 255 where the column is set aside.
+pub fn verdict_byte(v: Verdict) -> usize
+    ensures { λ r. ⌜ r ≡ verdictByte v ⌝ }
 {
     match v {
         Verdict::Rejected(step, _) => step,
         Verdict::Kept(_) => 0,
+        Verdict::Aside => 255,
     }
 }
 
@@ -24,6 +25,7 @@ fn tally(v: Verdict) -> usize
     match v {
         Verdict::Rejected(_, _) => 1,
         Verdict::Kept(_) => 0,
+        Verdict::Aside => 0,
     }
 }
 

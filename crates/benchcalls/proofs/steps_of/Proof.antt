@@ -25,7 +25,7 @@ loop-again : tie.Need-loop-again Inv-loop μ-loop
 loop-again c =
     let l = c .before .before .before .loop .inv in
     let t = c .before .before .loop-test .taken in
-    (omega arith, l .1, l .2, simp length-set (l .3), take-turn stepOfDecision _ _ _ _ _ _ 0 (c .rejecting-step .ensures) (omega (arith, l .1, t)) (omega (arith, t)) (l .4))
+    (omega arith, l .1, l .2, simp length-set (l .3), take-turn stepOfDecision _ _ _ _ _ _ 0 (c .verdict-byte .ensures) (omega (arith, l .1, t)) (omega (arith, t)) (l .4))
 
 returns : tie.Need-returns Inv-loop μ-loop
 returns c =

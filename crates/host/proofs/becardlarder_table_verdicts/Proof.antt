@@ -1,6 +1,6 @@
--- `becardlarder_table_verdicts`: where there is no byte for each column only the refusal is looked for; otherwise the table is run, the steps are written and the rejected counted.
+-- `becardlarder_table_verdicts`: where there is no byte for each column only the refusal is looked for; otherwise the table is run, the verdicts are written and the rejected counted.
 use native.Mathlib.Omega.{arith}
-use Rattle.host.proofs.StepBytes.{count-fits}
+use Rattle.host.proofs.VerdictBytes.{count-fits}
 use Rattle.host.proofs.Tables.{table-fits, table-known, table-short, table-refused, table-done}
 use borrow.Author.Needs.{needs}
 use Rattle.host.proofs.becardlarder_table_verdicts.Statement.{statement}
@@ -24,8 +24,8 @@ returns-2 c =
     let s = r .before .before .before .before .before .before in
     table-refused _ _ _ _ _ _ _ (s .args .work .now) (s .args .verdicts .now) (r .before .before .if1 .left) _ (r .full-run2 .ensures .0) _ (r .full-run2 .ensures .1) (c .if2 .taken)
 
-put-steps-requires : tie.Need-put-steps-requires
-put-steps-requires c κs =
+put-verdicts-requires : tie.Need-put-verdicts-requires
+put-verdicts-requires c κs =
     let r = c .before .before .before .before .before in
     let k = table-known _ _ _ _ _ _ _ _ _ (r .full-run2 .ensures .0) (c .before .before .if2 .left) in
     (k .0, r .before .before .if1 .left, k .1)
@@ -42,7 +42,7 @@ returns-3 c =
     let e = p .before .before .before in
     let r = e .before .before .before in
     let s = r .before .before .before .before .before .before in
-    table-done _ _ _ _ _ _ _ (s .args .work .now) (s .args .verdicts .now) (r .before .before .if1 .left) _ (r .full-run2 .ensures .0) _ (r .full-run2 .ensures .1) (e .if2 .left) _ (p .put-steps .ensures) _ (c .rejected-count .ensures)
+    table-done _ _ _ _ _ _ _ (s .args .work .now) (s .args .verdicts .now) (r .before .before .if1 .left) _ (r .full-run2 .ensures .0) _ (r .full-run2 .ensures .1) (e .if2 .left) _ (p .put-verdicts .ensures) _ (c .rejected-count .ensures)
 
 pub becardlarder-table-verdicts-spec : {M : Type 1} → statement M
 becardlarder-table-verdicts-spec =
@@ -58,7 +58,7 @@ becardlarder-table-verdicts-spec =
     add-result-2
     (λ c. search needs)
     returns-2
-    put-steps-requires
+    put-verdicts-requires
     (λ c κs. search needs)
     cast-result
     (λ c. search needs)

@@ -1,6 +1,6 @@
 -- `becardlarder_trial_verdicts`: the file is run, and its run told.
 use borrow.Author.Needs.{needs}
-use Rattle.trial.specs.Exchange.{tableOf}
+use Rattle.trial.specs.Exchange.{trialRows}
 use Rattle.trialrun.specs.TrialRuns.{trialRun}
 use Rattle.trialrun.specs.FileRuns.{fileRun}
 use Rattle.host.specs.Calls.{trialVerdictsAnswer, trialVerdictsBuffer}
@@ -10,7 +10,7 @@ use Rattle.host.proofs.becardlarder_trial_verdicts.Tie as tie
 
 tell-requires : tie.Need-tell-requires
 unfolding fileRun trialRun
-tell-requires c κs = file-tellable tableOf _ _ (c .before .file-run .ensures)
+tell-requires c κs = file-tellable trialRows _ _ (c .before .file-run .ensures)
 
 returns : tie.Need-returns
 unfolding fileRun trialRun trialVerdictsAnswer trialVerdictsBuffer
@@ -18,7 +18,7 @@ returns c =
     let t = c .before .before in
     let r = t .before .before in
     let a = r .before .before .before .args in
-    file-told tableOf (a .file .now) _ (r .file-run .ensures) (a .verdicts .now) _ _ (t .tell .ensures)
+    file-told trialRows (a .file .now) _ (r .file-run .ensures) (a .verdicts .now) _ _ (t .tell .ensures)
 
 pub becardlarder-trial-verdicts-spec : {M : Type 1} → statement M
 becardlarder-trial-verdicts-spec = tie.close (tie.spec (λ c κs. search needs) tell-requires (λ c. search needs) returns)

@@ -1,7 +1,7 @@
--- `tell`: the buffer is measured, the steps are written and the rejected counted.
+-- `tell`: the buffer is measured, the verdicts are written and the rejected counted.
 use native.Mathlib.Omega.{arith}
 use borrow.Author.Needs.{needs}
-use Rattle.host.proofs.StepBytes.{count-fits}
+use Rattle.host.proofs.VerdictBytes.{count-fits}
 use Rattle.host.proofs.Files.{told-refused, told-short, told-done}
 use Rattle.host.proofs.tell.Statement.{statement}
 use Rattle.host.proofs.tell.Tie as tie
@@ -12,8 +12,8 @@ returns c = told-refused (c .before .before .before .args .answer) _ (c .if1 .ta
 returns-2 : tie.Need-returns-2
 returns-2 c = let e = c .before .before in told-short (e .before .before .before .args .answer) _ (e .if1 .left) (c .if2 .taken)
 
-put-steps-requires : tie.Need-put-steps-requires
-put-steps-requires c κs =
+put-verdicts-requires : tie.Need-put-verdicts-requires
+put-verdicts-requires c κs =
     let b = c .before .before in
     let e = b .before .before in
     let p = e .before .before .before .pre in
@@ -29,7 +29,7 @@ returns-3 c =
     let p = c .before .before .before in
     let b = p .before .before .before in
     let e = b .before .before in
-    told-done (e .before .before .before .args .answer) _ (e .if1 .left) (b .if2 .left) _ (c .rejected-count .ensures) _ (p .put-steps .ensures)
+    told-done (e .before .before .before .args .answer) _ (e .if1 .left) (b .if2 .left) _ (c .rejected-count .ensures) _ (p .put-verdicts .ensures)
 
 pub tell-spec : {M : Type 1} → statement M
 tell-spec =
@@ -38,7 +38,7 @@ tell-spec =
     (λ c. search needs)
     returns
     returns-2
-    put-steps-requires
+    put-verdicts-requires
     (λ c κs. search needs)
     cast-result
     (λ c. search needs)

@@ -1,7 +1,7 @@
 -- `full_run` meets its contract: its checks, and the engine's full run at e over all columns.
 use native.Mathlib.Omega.{arith}
 use Rattle.stepdown.proofs.Accepted.{table-accepted, accepted-checked, table-room, table-level}
-use Rattle.stepdown.proofs.Calls.{rows-pass, full-refused, full-work-kept, full-is, full-on, full-work-cleared, made-rare, made-full}
+use Rattle.stepdown.proofs.Calls.{full-refused, full-work-kept, full-is, full-on, full-work-cleared, made-rare, made-full}
 use mathlib.Core.Path.{sym, _∙_}
 use borrow.Author.Needs.{needs}
 use Rattle.stepdown.proofs.full_run.Statement.{statement}
@@ -11,7 +11,7 @@ returns : tie.Need-returns
 returns c = let o = c .before .before in let w = o .before .before .before .args .work .now in (full-refused _ _ _ _ _ _ _ w _ (o .table-run-refusal .ensures) _ (c .before .if1 .taken) (c .refused .ensures), full-work-kept _ _ _ _ _ _ _ w _ (o .table-run-refusal .ensures) (c .before .if1 .taken))
 
 allowance-requires : tie.Need-allowance-requires
-allowance-requires c κs = let z = sym (c .before .table-run-refusal .ensures) ∙ c .if1 .left in (rows-pass _ _ _ (table-accepted _ _ _ _ _ _ _ _ z .shaped), table-level _ _ _ _ _ _ _ _ z)
+allowance-requires c κs = let z = sym (c .before .table-run-refusal .ensures) ∙ c .if1 .left in (table-accepted _ _ _ _ _ _ _ _ z .shaped .rows-most, table-level _ _ _ _ _ _ _ _ z)
 
 full-mask-requires : tie.Need-full-mask-requires
 full-mask-requires c κs = let z = sym (c .before .before .table-run-refusal .ensures) ∙ c .before .if1 .left in omega (arith, table-accepted _ _ _ _ _ _ _ _ z .shaped .columns-most)

@@ -1,11 +1,11 @@
 -- `state_of` meets its contract.
-use Rattle.stepdown.proofs.Calls.{rows-pass, state-is}
+use Rattle.stepdown.proofs.Calls.{state-is}
 use Rattle.stepdown.proofs.Spoiled.{figures, figures-level}
 use Rattle.stepdown.proofs.state_of.Statement.{statement}
 use Rattle.stepdown.proofs.state_of.Tie as tie
 
 allowance-requires : tie.Need-allowance-requires
-allowance-requires c κs = (rows-pass _ _ _ (figures _ (c .pre) .shaped), figures-level _ (c .pre))
+allowance-requires c κs = (figures _ (c .pre) .shaped .rows-most, figures-level _ (c .pre))
 
 full-mask-requires : tie.Need-full-mask-requires
 full-mask-requires c κs = figures _ (c .before .pre) .shaped .columns-most

@@ -1,8 +1,11 @@
--- `balanced_run`: the table is made, its columns are ranked in place, and that is run with row 0 observed.
+-- `balanced_run`: the table is made, its columns are ranked in place, and that is run with row 0 observed over the live offers.
 use Rattle.runs.specs.FullRuns.{acceptedRun, refusedRun}
-use Rattle.trialrun.proofs.Tabled.{call-turned, small, room}
+use Rattle.balance.specs.Balance.{balancedRows}
+use Rattle.trial.specs.Exchange.{trialRows}
+use Rattle.trialrun.proofs.Tabled.{call-turned, small, room, good}
+use Rattle.trialrun.proofs.Runs.{level-known, startable, told, left}
 use Rattle.trialbalance.specs.TrialBalance.{trialBalanced, trialBalancedRun, trialBalancedAnswer, runBalanced}
-use Rattle.trialbalance.proofs.Calls.{few-rows, rankable, table-room, table-left, run-told, work-left}
+use Rattle.trialbalance.proofs.Calls.{few-rows, rankable, table-room, table-is, table-left, balanced-checked, balanced-rows}
 use native.Mathlib.Omega.{arith}
 use mathlib.Core.Path.{sym}
 use lib.Seq.{length-take-le}
@@ -67,26 +70,45 @@ balance-requires c κs =
     let p = d .table-for-run .ensures in
     (rankable (a .t) (a .table .now) (a .work .now) _ (p .0) _ (p .1) (z .if1 .left), record { first = sym (slice-aggregate-balance-2 (c .before .before)); second = sym (slice-aggregate-balance-3 (c .before)); third = sym (slice-aggregate-balance-4 c) })
 
-slice-reshare-prefix-full-run : tie.Need-slice-reshare-prefix-full-run
-slice-reshare-prefix-full-run c =
+allowance-requires : tie.Need-allowance-requires
+allowance-requires c κs =
     let z = c .before .before .before .before .before .before .before .before .before .before .before in
     let d = z .before .before .before .before in
     let a = d .before .before .before .before .args in
     let p = d .table-for-run .ensures in
-    table-room (a .t) (a .table .now) (a .work .now) _ (p .0) _ (p .1) (z .if1 .left) _ (c .before .before .before .before .before .balance .ensures)
+    level-known (a .t) (a .table .now) (a .work .now) _ (p .0) _ (p .1) (z .if1 .left)
+
+slice-reshare-prefix-full-run : tie.Need-slice-reshare-prefix-full-run
+slice-reshare-prefix-full-run c =
+    let z = c .before .before .before .before .before .before .before .before .before .before .before .before in
+    let d = z .before .before .before .before in
+    let a = d .before .before .before .before .args in
+    let p = d .table-for-run .ensures in
+    table-room (a .t) (a .table .now) (a .work .now) _ (p .0) _ (p .1) (z .if1 .left) _ (c .before .before .before .before .before .before .balance .ensures)
 
 slice-aggregate-full-run : tie.Need-slice-aggregate-full-run
 slice-aggregate-full-run c = sym (length-take-le _ _ (slice-reshare-prefix-full-run (c .before)))
 
-returns-2 : tie.Need-returns-2
-returns-2 c =
-    let z = c .before .before .before .before .before .before .before .before .before .before .before .before .before .before .before .before in
+full-run-requires : tie.Need-full-run-requires
+full-run-requires c κs =
+    let z = c .before .before .before .before .before .before .before .before .before .before .before .before .before .before in
     let d = z .before .before .before .before in
     let a = d .before .before .before .before .args in
     let p = d .table-for-run .ensures in
-    let r = c .before .before .before .before .before .before .before .before .before .before .balance .ensures in
-    let f = c .before .before .full-run .ensures in
-    (run-told (a .t) (a .table .now) (a .work .now) _ (p .0) _ (p .1) (z .if1 .left) _ r _ (f .0), (table-left (a .t) (a .table .now) (a .work .now) _ (p .0) _ (p .1) (z .if1 .left) _ r, work-left (a .t) (a .table .now) (a .work .now) _ (p .0) _ (p .1) (z .if1 .left) _ r _ (f .1)))
+    startable (a .t) (a .table .now) (a .work .now) _ (p .0) _ (p .1) (z .if1 .left) _ (c .before .before .allowance .ensures) _ _ (table-is (a .t) (a .table .now) (a .work .now) _ (p .0) _ (p .1) (z .if1 .left) _ (c .before .before .before .before .before .before .before .before .balance .ensures)) (balanced-checked (a .t) (good (a .t) (a .table .now) (a .work .now) _ (p .0) _ (p .1) (z .if1 .left)))
+
+returns-2 : tie.Need-returns-2
+unfolding trialBalancedAnswer trialBalancedRun
+returns-2 c =
+    let z = c .before .before .before .before .before .before .before .before .before .before .before .before .before .before .before .before .before in
+    let d = z .before .before .before .before in
+    let a = d .before .before .before .before .args in
+    let p = d .table-for-run .ensures in
+    let r = c .before .before .before .before .before .before .before .before .before .before .before .balance .ensures in
+    let f = c .before .before .full-run .ensures in (
+      told (a .t) (a .table .now) (a .work .now) _ (p .0) _ (p .1) (z .if1 .left) _ (c .before .before .before .before .before .allowance .ensures) _ _ (table-is (a .t) (a .table .now) (a .work .now) _ (p .0) _ (p .1) (z .if1 .left) _ r) (balancedRows (trialRows (a .t))) (balanced-rows (a .t)) _ (f .0),
+      (table-left (a .t) (a .table .now) (a .work .now) _ (p .0) _ (p .1) (z .if1 .left) _ r, left (a .t) (a .table .now) (a .work .now) _ (p .0) _ (p .1) (z .if1 .left) _ (f .1)),
+    )
 
 pub balanced-run-spec : {M : Type 1} → statement M
 balanced-run-spec =
@@ -106,9 +128,10 @@ balanced-run-spec =
     array-borrow-prefix-spare
     slice-aggregate-balance-4
     balance-requires
+    allowance-requires
     slice-reshare-prefix-full-run
     slice-aggregate-full-run
-    (λ c κs. search needs)
+    full-run-requires
     (λ c. search needs)
     (λ c. search needs)
     returns-2)
