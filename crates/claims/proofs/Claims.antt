@@ -24,11 +24,11 @@ use Rattle.refusals.specs.Answers.{Checks, First, firstRefusal, afterwards}
 use Rattle.refusals.specs.Limits.{allowance}
 use Rattle.refusals.specs.Buffers.{written, cleared}
 use Rattle.refusals.proofs.Answers.{Answered, answered, none-holds}
-use Rattle.columns.specs.Columns.{size, everyColumn}
+use Rattle.columns.specs.Columns.{size, within, everyColumn}
 use Rattle.runs.specs.Stepdown.{rejectedSet, leftOver, newlyRejected, fullRun}
 use Rattle.runs.specs.FullRuns.{acceptedRun, refusedRun, verdictsIn, isRejected, isAside}
 use Rattle.runs.specs.declared.Verdict.the-variants.{Kept}
-use Rattle.runs.specs.Tables.{tableRun}
+use Rattle.runs.specs.Tables.{tableStart, tableRun}
 use Rattle.runs.specs.Examples.{examples}
 use Rattle.runs.proofs.Examples.{all-examples}
 use Rattle.runs.proofs.Told as told
@@ -73,6 +73,8 @@ use Rattle.trialbalance.specs.TrialBalance.{trialBalanced, trialBalancedRun, tr
 use Rattle.trialadjustment.specs.TrialFigures.{rejectedOf, trialFigures, trialFiguresAnswer}
 use Rattle.trialadjustment.proofs.Trials as trialfigures
 use Rattle.trialrun.proofs.Aside as asides
+use Rattle.trialrun.proofs.Without as without
+use Rattle.trialrun.proofs.Without.{Without}
 use Rattle.trialbalance.proofs.Calls as balancing
 use Rattle.control.proofs.Trials as runs-of-trials
 use Rattle.control.proofs.Answered.{tables-answered, trials-answered, balanced-tables-answered, balanced-trials-answered}
@@ -406,6 +408,15 @@ module _ (t : Trial) (i : ℕ) (h : i < t .shape .offers) where
   pub bytes-tell : Tells (getD (trialRun t .verdicts) i (Kept plusZero)) × Tells (getD (trialBalancedRun t .verdicts) i (Kept plusZero))
   unfolding trialRun trialBalancedRun
   bytes-tell = (run-tells (trialRows t) (trialStart t) refl i h (Kept plusZero), run-tells (balancedRows (trialRows t)) (trialStart t) refl i h (Kept plusZero))
+
+-- demand 2 is read over the offers that remain: the run of an accepted trial is that of its table without the columns of the others. Its records are the
+-- same, and of the offers that remain, in their order, verdicts and counts; the balanced run is that of the smaller table, balanced
+module _ (t : Trial) (ok : trialRefusal t ≡ 0) where
+  pub as-without : Without t (trialRun t) (fullRun (map (within (liveOffers t)) (trialRows t)) (tableStart (rowTotal t) (size (liveOffers t)) (t .shape .k) (t .level .a) (t .level .b) 0))
+  as-without = without.trial-without t ok
+
+  pub balanced-as-without : Without t (trialBalancedRun t) (fullRun (balancedRows (map (within (liveOffers t)) (trialRows t))) (tableStart (rowTotal t) (size (liveOffers t)) (t .shape .k) (t .level .a) (t .level .b) 0))
+  balanced-as-without = balancing.balanced-without t ok
 
 -- where fewer than k offers remain no step is run, in either run: each of them is kept with step 0, its count and plus zero; every figure is M
 module _ (t : Trial) (few : size (liveOffers t) < t .shape .k) where

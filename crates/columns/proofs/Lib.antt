@@ -2,3 +2,4 @@ pub mod Sets
 pub mod Masks
 pub mod PutBack
 pub mod Remaining
+pub mod Parts

@@ -3,11 +3,12 @@
 --   K ⊆ L          two sets over the same columns, each column of K in L; ⊆-by and ⊆-at go by columns
 --   has-over          which columns are over a value
 --   ⊆-refl, ⊆-trans   a set holds itself, and what the sets that it holds hold
+--   ∪-in, ∩-in, ∖-in  it holds what two sets that it holds have together, and what is left of one
 --   some-column       a set that has a column is not empty
 --   empty-..          the set of no column, beside a set: it lies in every set, and has no column
 use Prim.Native.Nat.{ℕ, zero, suc, _+_, _≤_, _<_}
 use native.Mathlib.Omega.{arith}
-use mathlib.Core.Path.{_≡_, refl, sym, ap, _∙_}
+use mathlib.Core.Path.{_≡_, refl, sym, ap, _∙_, subst}
 use mathlib.Core.Bool.{Bool, true, false, not, _&&_, _||_}
 use mathlib.Core.List.{List, [], _∷_, map, zipWith}
 use lib.ListN.{length, getD, replicate, length-map}
@@ -110,6 +111,22 @@ pub ⊆-refl : (K : Columns) → K ⊆ K
 pub ⊆-trans : {K L N : Columns} → K ⊆ L → L ⊆ N → K ⊆ N
 ⊆-trans none none = none
 ⊆-trans (more f s) (more g t) = more (λ z. g (f z)) (⊆-trans s t)
+
+pub ∪-in : {K N L : Columns} → K ⊆ L → N ⊆ L → (K ∪ N) ⊆ L
+unfolding _∪_ zipWith
+∪-in none none = none
+∪-in (more {a} {b} f s) (more {a = c} g t) = more (either a c f g) (∪-in s t)
+  where
+    either : (a c : Bool) → (T a → T b) → (T c → T b) → T (a || c) → T b
+    either true c f g z = f tt
+    either false c f g z = g z
+
+module _ {K L : Columns} (s : K ⊆ L) (N : Columns) (h : length K ≡ length N) where
+  pub ∩-in : (K ∩ N) ⊆ L
+  ∩-in = ⊆-by (K ∩ N) L (length-∩ K N h ∙ ⊆-length s) (λ j t. ⊆-at s j (and-left (has K j) (has N j) (subst (λ (b : Bool). T b) (has-∩ K N h j) t)))
+
+  pub ∖-in : (K ∖ N) ⊆ L
+  ∖-in = ⊆-by (K ∖ N) L (length-∖ K N h ∙ ⊆-length s) (λ j t. ⊆-at s j (and-left (has K j) (not (has N j)) (subst (λ (b : Bool). T b) (has-∖ K N h j) t)))
 
 pub size-mono : {K L : Columns} → K ⊆ L → size K ≤ size L
 unfolding size count

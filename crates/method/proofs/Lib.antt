@@ -1,3 +1,4 @@
 pub mod Critical
 pub mod Reaching
 pub mod Exceeding
+pub mod Parts

@@ -1,12 +1,12 @@
 -- Rows of finite values.
 --   Finite xs        every member is finite
 --   Sound n X        every row of X has n values, all of them finite
---   sound-..         what a row of such rows is known to be, and its value in column j; sound-row, rowsOf-sound: which are such rows
+--   sound-..         what a row of such rows is known to be, and its value in column j; sound-row, rowsOf-sound: which are such rows; sound-map: what is made of each
 use Prim.Native.Nat.{ℕ, _*_, _<_}
 use native.Mathlib.Omega.{arith}
-use mathlib.Core.Path.{_≡_, sym, subst}
+use mathlib.Core.Path.{_≡_, refl, sym, ap₂, subst}
 use mathlib.Core.Bool.{Bool, _&&_}
-use mathlib.Core.List.{List}
+use mathlib.Core.List.{List, [], _∷_, map}
 use lib.ListN.{length, getD}
 use lib.Dec.{T, eqb, eqb-refl, eqb→eq}
 use lib.Ieee.{Float, nan}
@@ -37,6 +37,11 @@ sound-at n row j t h = all-getD finite row j nan (omega (arith, sound-length n r
 
 pub sound-all : (n : ℕ) (X : List (List Float)) → Sound n X → T (all (all finite) X)
 sound-all n X s = all-le (soundRow n) (all finite) X (sound-finite n) s
+
+pub sound-map : {B : Type 0} (n : ℕ) (f g : List Float → B) (X : List (List Float)) → Sound n X → ((row : List Float) → T (soundRow n row) → f row ≡ g row) → map f X ≡ map g X
+unfolding all
+sound-map n f g [] s h = refl
+sound-map n f g (row ∷ X) s h = ap₂ (λ y ys. y ∷ ys) (h row (and-left (soundRow n row) (all (soundRow n) X) s)) (sound-map n f g X (and-right (soundRow n row) (all (soundRow n) X) s) h)
 
 pub sound-row : (n : ℕ) (row : List Float) → length row ≡ n → Finite row → T (soundRow n row)
 sound-row n row h f = and-both (eqb (length row) n) (all finite row) (subst (λ (i : ℕ). T (eqb i n)) (sym h) (eqb-refl n)) f

@@ -5,6 +5,7 @@ pub mod Termination
 pub mod Descent
 pub mod RejectedSets
 pub mod Told
+pub mod Without
 pub mod RejectedVerdicts
 pub mod Loosening
 pub mod Examples

@@ -7,10 +7,11 @@
 --   balancedRun-table              the balanced full run, by that table
 --   nothing-aside                  where no offer is set aside it is the balanced full run of the trial's table
 --   trial-counts                   its counts are those of the plain run
-use Prim.Native.Nat.{ℕ, _*_, _≤_}
+--   balanced-without               it is that of the table without the columns of the offers that are set aside, balanced
+use Prim.Native.Nat.{ℕ, _*_, _^_, _≤_}
 use native.Mathlib.Omega.{arith}
-use mathlib.Core.Path.{_≡_, sym, ap, ap₂, _∙_}
-use mathlib.Core.List.{List, _++_}
+use mathlib.Core.Path.{_≡_, sym, ap, ap₂, _∙_, subst}
+use mathlib.Core.List.{List, _++_, map}
 use lib.ListN.{length, take, drop, length-append}
 use lib.Seq.{take-at, drop-at}
 use lib.Ieee.{Float}
@@ -18,28 +19,31 @@ use Rattle.order.specs.Lists.{rowsOf}
 use Rattle.limits.specs.Limits.{trialRowsMost}
 use Rattle.refusals.specs.Buffers.{written}
 use Rattle.refusals.specs.Limits.{allowance}
-use Rattle.columns.specs.Columns.{fullMask}
+use Rattle.columns.specs.Columns.{size, within, fullMask}
 use Rattle.masks.specs.Internal.{CheckedTable}
 use Rattle.runs.specs.Stepdown.{firstState, fullRun}
-use Rattle.runs.specs.Tables.{tableRun}
+use Rattle.runs.specs.Tables.{tableStart, tableRun}
 use Rattle.stepdown.proofs.Accepted as tables
 use Rattle.balance.specs.Balance.{balancedRows, balancedTable}
-use Rattle.balance.proofs.Balanced.{balancedTable-length, balancedTable-rows}
+use Rattle.balance.proofs.Balanced.{balancedRows-length, balanced-sound, balancedTable-length, balancedTable-rows}
 use Rattle.ranking.specs.Internal.{Rankable}
 use Rattle.tablebalance.specs.Answers.{balancedRun}
 use Rattle.tablebalance.proofs.Accepted.{accepted-balanced}
 use Rattle.tablebalance.proofs.Counted.{run-counts}
-use Rattle.trial.specs.Aside.{liveMask}
+use Rattle.trial.specs.Aside.{liveOffers, liveMask}
 use Rattle.trial.specs.Exchange.{rowTotal, trialRows, tableOf}
 use Rattle.trial.specs.declared.Trial.{Trial}
 use Rattle.trial.specs.declared.TableSize.{TableSize}
 use Rattle.trial.specs.Refusals.{trialRefusal}
 use Rattle.trial.proofs.Accepted.{Accepted, accepted}
+use Rattle.trial.proofs.Aside.{live-length}
 use Rattle.trial.proofs.Tables.{trialRows-length, trialRows-sound, tableOf-length, tableOf-rows, rowTotal-some}
 use Rattle.trialrun.specs.TrialRuns.{trialStart, trialRun, runSize, runTable}
 use Rattle.trialrun.proofs.Tabled.{free, rows-are, columns-are, same-total, good, filled, front, asked}
 use Rattle.trialrun.proofs.Runs.{table-accepted}
+use Rattle.trialrun.proofs.Without.{Without, run-without}
 use Rattle.trialbalance.specs.TrialBalance.{trialBalanced, trialBalancedRun, runBalanced}
+use Rattle.trialbalance.proofs.Parts.{balanced-part}
 
 module _ (t : Trial) (table work : List Float) (s : TableSize) (q : s ≡ runSize t (length table) (length work)) (w : List Float) (e : w ≡ runTable t table (length work)) (z : s .refusal ≡ 0) where
   abbrev total : ℕ
@@ -109,8 +113,21 @@ module _ (t : Trial) where
       balancedRun-table
       ∙ ap (λ (live : ℕ). fullRun (rowsOf (rowTotal t) (t .shape .offers) (trialBalanced t)) (firstState (rowTotal t) (t .shape .offers) (t .shape .k) (allowance (rowTotal t) (t .level .a) (t .level .b)) 0 live)) h
 
-  pub trial-counts : trialRefusal t ≡ 0 → trialBalancedRun t .counts ≡ trialRun t .counts
-  unfolding trialBalancedRun trialRun rowTotal
-  trial-counts ok =
-      let acc = accepted t ok in
-      run-counts (trialRows t) (trialStart t) (trialRows-sound t acc) (omega (arith, trialRows-length t, acc .laid .rows-most)) (omega (arith, trialRows-length t, rowTotal-some t))
+  module _ (ok : trialRefusal t ≡ 0) where
+    acc : Accepted t
+    acc = accepted t ok
+
+    few : length (trialRows t) ≤ 2 ^ 53
+    unfolding rowTotal
+    few = omega (arith, trialRows-length t, acc .laid .rows-most)
+
+    pub trial-counts : trialBalancedRun t .counts ≡ trialRun t .counts
+    unfolding trialBalancedRun trialRun
+    trial-counts = run-counts (trialRows t) (trialStart t) (trialRows-sound t acc) few (omega (arith, trialRows-length t, rowTotal-some t))
+
+    pub balanced-without : Without t (trialBalancedRun t) (fullRun (balancedRows (map (within (liveOffers t)) (trialRows t))) (tableStart (rowTotal t) (size (liveOffers t)) (t .shape .k) (t .level .a) (t .level .b) 0))
+    unfolding trialBalancedRun
+    balanced-without =
+        subst (λ (Y : List (List Float)). Without t (fullRun (balancedRows (trialRows t)) (trialStart t)) (fullRun Y (tableStart (rowTotal t) (size (liveOffers t)) (t .shape .k) (t .level .a) (t .level .b) 0)))
+        (balanced-part (t .shape .offers) (trialRows t) (trialRows-sound t acc) (liveOffers t) (live-length t))
+        (run-without t (balancedRows (trialRows t)) (balanced-sound (t .shape .offers) (trialRows t) (trialRows-sound t acc) few) (omega (arith, balancedRows-length (trialRows t), trialRows-length t, rowTotal-some t)))

@@ -1,3 +1,4 @@
+pub mod Parts
 pub mod Calls
 pub mod Files
 pub mod Unused
