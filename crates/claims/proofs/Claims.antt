@@ -25,6 +25,7 @@ use Rattle.refusals.specs.Limits.{allowance}
 use Rattle.refusals.specs.Buffers.{written, cleared}
 use Rattle.refusals.proofs.Answers.{Answered, answered, none-holds}
 use Rattle.columns.specs.Columns.{size, within, everyColumn}
+use Rattle.method.specs.Method.{atLeast}
 use Rattle.runs.specs.Stepdown.{rejectedSet, leftOver, newlyRejected, fullRun}
 use Rattle.runs.specs.FullRuns.{acceptedRun, refusedRun, verdictsIn, isRejected, isAside}
 use Rattle.runs.specs.declared.Verdict.the-variants.{Kept}
@@ -404,6 +405,11 @@ module _ (t : Trial) (i : ℕ) (h : i < t .shape .offers) where
     pub aside-figure : getD (trialFigures t) i 0 ≡ rowTotal t
     aside-figure = trialfigures.trial-aside t i h q
 
+  -- the count of an offer that remains is that of document 01
+  pub tested-count : untested (t .shape .design) (figuresAt t i) ≡ false → getD (trialRun t .counts) i 0 ≡ atLeast (trialRows t) (getD (getD (trialRows t) 0 []) i nan) i
+  unfolding trialRun
+  tested-count = asides.tested-count t (trialRows t) i h
+
   -- its byte for C is 255, and no other's is; a rejected offer's is the step, from 1 to 32
   pub bytes-tell : Tells (getD (trialRun t .verdicts) i (Kept plusZero)) × Tells (getD (trialBalancedRun t .verdicts) i (Kept plusZero))
   unfolding trialRun trialBalancedRun
@@ -428,6 +434,12 @@ module _ (t : Trial) (few : size (liveOffers t) < t .shape .k) where
       → (getD (trialRun t .verdicts) i (Kept plusZero) ≡ Kept plusZero) × (getD (trialBalancedRun t .verdicts) i (Kept plusZero) ≡ Kept plusZero)
   unfolding trialRun trialBalancedRun
   kept-without-steps i h q = (asides.few-told t (trialRows t) i h q few (Kept plusZero), asides.few-told t (balancedRows (trialRows t)) i h q few (Kept plusZero))
+
+  pub lines-without-steps : (i : ℕ) → i < t .shape .offers → untested (t .shape .design) (figuresAt t i) ≡ false
+      → let reads : ℕ → List ℕ = λ n. line (printed (getD (t .labels .digits) i 0) (getD (t .labels .codes) i 0)) (ascii "kept" ∷ decimal 0 ∷ decimal n ∷ []) in
+      (offerLineAt (t .labels) (acceptedRun (trialRun t)) i ≡ reads (getD (trialRun t .counts) i 0)) × (offerLineAt (t .labels) (acceptedRun (trialBalancedRun t)) i ≡ reads (getD (trialBalancedRun t .counts) i 0))
+  unfolding trialRun trialBalancedRun
+  lines-without-steps i h q = (lines.few-line t (trialRows t) i h q few, lines.few-line t (balancedRows (trialRows t)) i h q few)
 
   pub few-figures : trialFigures t ≡ replicate (t .shape .offers) (rowTotal t)
   few-figures = trialfigures.trial-few t few

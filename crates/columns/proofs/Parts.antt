@@ -10,9 +10,9 @@ use native.Mathlib.Omega.{arith}
 use mathlib.Core.Path.{_≡_, refl, sym, ap, ap₂, _∙_}
 use mathlib.Core.Bool.{Bool, true, false, not, _&&_, _||_}
 use mathlib.Core.List.{List, [], _∷_, _++_, map, map-map, map-append, zipWith}
-use lib.ListN.{length, getD, replicate}
+use lib.ListN.{length, getD}
 use lib.Dec.{T}
-use Rattle.order.specs.Counting.{bit, count}
+use Rattle.order.specs.Counting.{count}
 use Rattle.columns.specs.Columns.{Columns, everyColumn, size, _∪_, _∩_, _∖_, within, choose}
 use Rattle.columns.proofs.Sets.{has, _⊆_, none, more, empty-in}
 

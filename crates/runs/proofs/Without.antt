@@ -10,14 +10,14 @@ use mathlib.Core.Bool.{Bool, true, false, cond, _||_}
 use mathlib.Core.List.{List, [], _∷_, map}
 use lib.ListN.{length, getD, length-map}
 use lib.Seq.{ext-getD}
-use lib.Dec.{T, ltb, eqb}
+use lib.Dec.{ltb, eqb}
 use lib.Ieee.{Float, nan}
 use Rattle.order.specs.Order.{plusZero, finite, smaller}
 use Rattle.order.specs.Counting.{all}
 use Rattle.order.proofs.Booleans.{and-left, and-right, and-both}
 use Rattle.order.proofs.Lists.{getD-map}
 use Rattle.order.proofs.Rows.{Sound, soundRow, sound-length, sound-finite, sound-row}
-use Rattle.columns.specs.Columns.{Columns, everyColumn, size, _∪_, _∩_, _∖_, within, over, inSet, columnsOf, fullMask}
+use Rattle.columns.specs.Columns.{Columns, size, _∪_, _∩_, _∖_, within, over, inSet, columnsOf, fullMask}
 use Rattle.columns.proofs.Sets.{has, has-all, _⊆_, ⊆-refl, ⊆-length, ∪-in, ∩-in, ∖-in, within-length, within-all, empty-in}
 use Rattle.columns.proofs.Masks.{columnsOf-length, columnsOf-none, has-columnsOf, full-columns}
 use Rattle.columns.proofs.Parts.{within-map, within-∪, within-∩, within-∖, within-size, within-self, position, position-lt, position-in, within-at}
@@ -29,7 +29,7 @@ use Rattle.runs.specs.declared.Record.{Record}
 use Rattle.runs.specs.declared.Step.{Step}
 use Rattle.runs.specs.declared.Verdict.{Verdict}
 use Rattle.runs.specs.declared.Verdict.the-variants.{Rejected, Kept}
-use Rattle.runs.proofs.Steps.{seenRow, at-column, rejected-length, same-length, seen-length, newly-is, over-left, both-length, next-rejected}
+use Rattle.runs.proofs.Steps.{seenRow, at-column, seen-length, newly-is, over-left, both-length, next-rejected}
 use Rattle.runs.proofs.Start.{full-size}
 use Rattle.runs.proofs.Told.{verdicts-length, counts-length, verdict-live, count-live}
 

@@ -1,7 +1,6 @@
 -- Laws of offers that are set aside (document 02, §4).
 --   isZero                            a difference is 0
 --   untested-listed                   a zero stays a zero under a change of sign
---   untested-entry                    the column of an offer that has not been tested is zero in every row
 --   byOffer-length, live-length       how many offers there are
 --   live-at                           offer i takes part where it has been tested
 --   live-fits, live-columns, live-bit     the offers that take part, as a mask
@@ -13,12 +12,12 @@ use Prim.Native.Nat.{ℕ, zero, suc, _+_, _-_, _*_, _/_, _%_, _^_, _≤_, _<_}
 use native.Mathlib.Omega.{arith}
 use mathlib.Core.Path.{_≡_, refl, sym, ap, ap₂, _∙_, subst}
 use mathlib.Core.Logic.{_↔_}
-use mathlib.Core.Bool.{Bool, true, false, not, _&&_}
+use mathlib.Core.Bool.{Bool, false, not, _&&_}
 use mathlib.Core.List.{List, [], _∷_, map}
 use lib.ListN.{length, getD, take, drop, length-map, length-drop, drop-of-length-le}
 use lib.Seq.{drop-cons, length-take-le}
 use lib.Dec.{T, eqb, eqb→eq}
-use lib.IntN.{ℤ, pos, negsuc, natAbs, _+ℤ_}
+use lib.IntN.{ℤ, pos, negsuc, natAbs}
 use lib.Pow.{pow-mono}
 use lib.Signed.{mag}
 use mir.Syntax.{w32}
@@ -26,7 +25,7 @@ use mir.Val.{toZ, ofZ}
 use mir.Facts.{toZ-ofZ}
 use Rattle.order.specs.Counting.{bit, all}
 use Rattle.order.specs.Lists.{rowsOf}
-use Rattle.order.proofs.Booleans.{T-false, and-left, and-right, and-both}
+use Rattle.order.proofs.Booleans.{T-false, and-both}
 use Rattle.order.proofs.Counts.{all-getD}
 use Rattle.order.proofs.Lists.{part-rows, getD-map, rowsOf-length, rowsOf-row}
 use Rattle.order.proofs.Slices.{all-turn, all-out}
@@ -34,7 +33,7 @@ use Rattle.columns.specs.Columns.{Columns, inSet, columnsOf, maskOf}
 use Rattle.columns.proofs.Sets.{has}
 use Rattle.columns.proofs.Masks.{columnsOf-maskOf, maskOf-lt, has-columnsOf}
 use Rattle.limits.specs.Limits.{offersMost}
-use Rattle.trial.specs.Designs.{exchanged, signedSum, exchangedBy, unitsOf, entryOf, listed, untested}
+use Rattle.trial.specs.Designs.{exchangedBy, unitsOf, listed, untested}
 use Rattle.trial.specs.Record.{figuresOf}
 use Rattle.trial.specs.Exchange.{byOffer}
 use Rattle.trial.specs.Aside.{liveOffers, liveMask}
@@ -54,31 +53,16 @@ zero-is (pos zero) t = refl
 zero-is (pos (suc n)) t = absurd (omega (arith, eqb→eq (suc n) 0 t))
 zero-is (negsuc n) t = absurd (omega (arith, eqb→eq (suc n) 0 t))
 
-exchanged-zero : (b : Bool) → exchanged b (pos 0) ≡ pos 0
-exchanged-zero true = refl
-exchanged-zero false = refl
-
 zeros-exchanged : (g : ℕ) (ds : List ℤ) → all isZero (exchangedBy g ds) ≡ all isZero ds
 unfolding all exchangedBy
 zeros-exchanged g [] = refl
 zeros-exchanged g (d ∷ ds) = ap₂ (λ (n : ℕ) (b : Bool). eqb n 0 && b) (abs-exchanged (eqb (g % 2) 1) d) (zeros-exchanged (g / 2) ds)
-
-zeros-sum : (g : ℕ) (ds : List ℤ) → T (all isZero ds) → signedSum g ds ≡ pos 0
-unfolding all signedSum
-zeros-sum g [] t = refl
-zeros-sum g (d ∷ ds) t =
-    ap₂ _+ℤ_ (ap (exchanged (eqb (g % 2) 1)) (zero-is d (and-left (isZero d) (all isZero ds) t)) ∙ exchanged-zero (eqb (g % 2) 1))
-    (zeros-sum (g / 2) ds (and-right (isZero d) (all isZero ds) t))
 
 -- ---- by cases of the layout
 
 pub untested-listed : (d : Design) (g : ℕ) (xs : List ℤ) → untested d (listed d g xs) ≡ untested d xs
 unfolding untested listed
 untested-listed (Paired n) g xs = zeros-exchanged g xs
-
-pub untested-entry : (d : Design) (g : ℕ) (xs : List ℤ) → T (untested d xs) → entryOf d g xs ≡ pos 0
-unfolding untested entryOf
-untested-entry (Paired n) g xs t = zeros-sum g xs t
 
 -- what the test says, pair by pair
 all-zero : (xs : List ℤ) → T (all isZero xs) ↔ ((j : ℕ) → j < length xs → getD xs j (pos 0) ≡ pos 0)

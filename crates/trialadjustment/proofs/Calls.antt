@@ -9,10 +9,9 @@ use lib.Ieee.{Float}
 use Rattle.order.specs.Lists.{rowsOf, padded}
 use Rattle.adjustment.specs.Adjusted.{adjustedFigures}
 use Rattle.adjustment.specs.Answers.{acceptedFigures, refusedFigures}
-use Rattle.adjustment.specs.declared.Adjusted.{Adjusted}
 use Rattle.figuring.specs.Internal.{Passable}
 use Rattle.trial.specs.Aside.{liveMask}
-use Rattle.trial.specs.Exchange.{rowTotal, trialRows, tableOf}
+use Rattle.trial.specs.Exchange.{rowTotal, tableOf}
 use Rattle.trial.specs.declared.Trial.{Trial}
 use Rattle.trial.specs.declared.TableSize.{TableSize}
 use Rattle.trial.proofs.Aside.{live-fits}

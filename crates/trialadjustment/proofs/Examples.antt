@@ -4,17 +4,16 @@
 --   aside-figures      W with a third offer of zeros: W's figures, and M for that offer
 --   cancelled-figures, zeros-figures     fewer than k offers remain, and none: every figure is M
 use Prim.Native.Nat.{ℕ}
-use native.Mathlib.Omega.{arith}
-use mathlib.Core.Path.{_≡_, refl, ap, _∙_}
+use mathlib.Core.Path.{_≡_, refl, ap}
 use mathlib.Core.List.{List, [], _∷_}
 use lib.ListN.{getD}
 use lib.Ieee.{lt, le}
 use Rattle.runs.specs.Examples.{W}
-use Rattle.adjustment.specs.Adjusted.{adjustedFigures, tableFigures}
+use Rattle.adjustment.specs.Adjusted.{tableFigures}
 use Rattle.adjustment.specs.Examples.{examples}
 use Rattle.adjustment.proofs.Examples.{all-examples}
 use Rattle.trial.specs.Aside.{liveMask}
-use Rattle.trial.specs.Exchange.{rowTotal, trialRows}
+use Rattle.trial.specs.Exchange.{rowTotal}
 use Rattle.trial.specs.Examples.{trialWith, trialW, trialAside, trialCancelled, trialZeros}
 use Rattle.trialadjustment.specs.TrialFigures.{trialFigures}
 

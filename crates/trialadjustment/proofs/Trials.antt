@@ -21,7 +21,7 @@ use Rattle.order.specs.Lists.{tabulate}
 use Rattle.order.proofs.Booleans.{T-true}
 use Rattle.refusals.specs.Limits.{allowance}
 use Rattle.refusals.proofs.Limits.{allowance-lt}
-use Rattle.columns.specs.Columns.{Columns, size, columnsOf, maskOf}
+use Rattle.columns.specs.Columns.{Columns, size, maskOf}
 use Rattle.runs.specs.FullRuns.{isRejected}
 use Rattle.runs.specs.declared.Verdict.the-variants.{Kept}
 use Rattle.adjustment.specs.Adjusted.{rejectedAt, adjustedFigure, adjustedFigures}

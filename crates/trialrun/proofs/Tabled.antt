@@ -6,7 +6,7 @@
 --   free                           an accepted one of any kind
 --   ok, good, rows-are, columns-are, live-is, same-total, small     what is known of its trial, and the size that was told
 --   work-room, room, filled, front                         both buffers, and the table in its own
---   asked, call-done               what is asked of that table
+--   asked                          what is asked of that table
 use Prim.Native.Nat.{ℕ, _*_, _≤_, _<_}
 use native.Mathlib.Omega.{arith}
 use mathlib.Core.Path.{_≡_, refl, sym, ap, ap₂, _∙_}
@@ -177,7 +177,3 @@ module _ (t : Trial) (table work : List Float) (s : TableSize) (q : s ≡ runSiz
     -- of a table at the front of a buffer, by the size that was told
     pub asked : {A : Type 0} (f : List Float → ℕ → ℕ → A) (x y : List Float) → x ≡ y → f x (s .rows) (s .columns) ≡ f y (rowTotal t) (t .shape .offers)
     asked f x y p = ap₂ (λ (u : List Float) (m : ℕ). f u m (s .columns)) p rows-are ∙ ap (f y (rowTotal t)) columns-are
-
-    pub call-done : {A : Type 0} (f : List Float → ℕ → ℕ → A) (done : A) (refusing : ℕ → A) → f (tableOf t) (rowTotal t) (t .shape .offers) ≡ done
-        → (r : A) → r ≡ f (take (s .rows * s .columns) w) (s .rows) (s .columns) → r ≡ answer checks done refusing
-    call-done f done refusing d r v = v ∙ asked f (take (s .rows * s .columns) w) (tableOf t) front ∙ d ∙ free done refusing

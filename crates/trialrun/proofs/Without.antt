@@ -2,7 +2,7 @@
 --   Without t o r      the records of o and r are the same, and of the offers that remain, in their order, verdicts and counts
 --   run-without        so it is for the full run of X without the other columns
 --   trial-without      and so for the rows of the trial's own table
-use Prim.Native.Nat.{ℕ, _<_}
+use Prim.Native.Nat.{_<_}
 use native.Mathlib.Omega.{arith}
 use mathlib.Core.Path.{_≡_, subst}
 use mathlib.Core.List.{List, map}

@@ -2,7 +2,6 @@
 use Rattle.engine.specs.Internal.{Traced}
 use Rattle.engine.proofs.FullRuns.{count, partialRun, partial-start, partial-turn, partial-end}
 use Rattle.order.specs.Lists.{tabulate, padded}
-use lib.ListN.{length}
 use Prim.Native.Nat.{_≤_, _-_}
 use native.Mathlib.Omega.{arith}
 use mathlib.Core.Path.{_≡_}
