@@ -43,6 +43,9 @@ extern "C" {
 /* A refused call answers this plus the refusal number. */
 #define BECARDLARDER_REFUSED 100
 
+/* The verdict of an offer of a trial that is set aside; no step has this number. */
+#define BECARDLARDER_ASIDE 255
+
 /* The longest trial file, in bytes, and the most offers that it can have. */
 #define BECARDLARDER_LONGEST_FILE 652
 #define BECARDLARDER_MOST_OFFERS 16
@@ -52,11 +55,13 @@ extern "C" {
 #define BECARDLARDER_MOST_COLUMNS 32
 
 /*
- * Reads a trial file and runs its trial.
+ * Reads a trial file and runs its trial. An offer with difference 0 in every pair has not been tested: it is set aside
+ * before step 1 and takes no part. Where fewer than k offers remain no step is run, and each of them is kept.
  *
- * Returns the number of rejected offers. verdicts[i] is then the step that rejected offer i (in file order, from 0), or 0
- * where the offer is kept; bytes beyond the offers are unchanged. The buffer needs a byte for each offer:
- * BECARDLARDER_MOST_OFFERS bytes are always enough.
+ * Returns the number of rejected offers. verdicts[i] is then the step that rejected offer i (in file order, from 0), from
+ * 1 to 32, or 0 where the offer is kept, or BECARDLARDER_ASIDE where it is set aside; bytes beyond the offers are
+ * unchanged. The buffer needs a byte for each offer, those set aside too: BECARDLARDER_MOST_OFFERS bytes are always
+ * enough.
  *
  * Refusals: 1, then word by word from the start, the kind (2) before the value: 3, 4, at each offer 5 and 6, 7, 8. A
  * buffer too short (12) comes last. Where the call is refused the buffer is unchanged.
@@ -69,7 +74,8 @@ uint32_t becardlarder_trial_verdicts(const uint8_t *file, size_t file_len, uint8
  * Runs a table of rows times columns values, row after row, one of which is the observed row. An offer is a column.
  *
  * A table has 1 to BECARDLARDER_MOST_ROWS rows and 1 to BECARDLARDER_MOST_COLUMNS columns. The tolerance k is from 1 to 4
- * and at most the columns, the level is a/b with 0 < a < b <= 16383, and rows count from 0.
+ * and at most the columns, the level is a/b with 0 < a < b <= 16383, and rows count from 0. No column is set aside, also
+ * where all its values are 0.
  *
  * Returns the number of rejected columns. verdicts[j] is then the step that rejected column j, or 0 where it is kept, and
  * the first `rows` places of work hold plus zero; places beyond are unchanged in both. The buffers need a byte for each
@@ -89,7 +95,8 @@ uint32_t becardlarder_table_verdicts(const double *table, size_t table_len, size
 /*
  * Reads a trial file and works out the adjusted figure of each offer: the least e from 0 to M - 1 at which the method
  * rejects it, or M if none does. M is the number of rows of the trial's table, and e how many of them may lie above a
- * critical value: at a level a/b it is M times a/b, rounded down.
+ * critical value: at a level a/b it is M times a/b, rounded down. The figure of an offer that is set aside is M, and where
+ * fewer than k offers remain every figure is.
  *
  * Returns 0. figures[i] is then the figure of offer i (in file order, from 0), and *rows is M; places beyond the offers
  * are unchanged. `figures` needs a place for each offer: BECARDLARDER_MOST_OFFERS places are always enough. `rows` points
@@ -140,6 +147,7 @@ uint32_t becardlarder_table_balanced(const double *table, size_t table_len, size
 
 /*
  * Reads a trial file and runs the balanced table of its trial, in which offers of small and of large sums weigh the same.
+ * Offers are set aside as for becardlarder_trial_verdicts, by their differences.
  *
  * Returns the number of rejected offers; verdicts[i] is then as for becardlarder_trial_verdicts, but of the balanced run,
  * and bytes beyond the offers are unchanged. BECARDLARDER_MOST_OFFERS bytes are always enough.

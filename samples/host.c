@@ -9,9 +9,6 @@
 
 #include "becardlarder.h"
 
-/* The verdict of an offer whose difference is 0 in every pair: it is set aside. */
-enum { ASIDE = 255 };
-
 /* Why a file is turned away, by refusal number. */
 static const char *reason(uint32_t refusal)
 {
@@ -44,7 +41,7 @@ static void print_verdicts(const uint8_t *file, const uint8_t *verdicts)
         uint32_t offer = word(file, 2 + i);
         int digits = offer >> 24 & 0xF;
         unsigned code = offer & 0xFFFFFF;
-        if (verdicts[i] == ASIDE)
+        if (verdicts[i] == BECARDLARDER_ASIDE)
             printf("%0*u set aside\n", digits, code);
         else if (verdicts[i] != 0)
             printf("%0*u rejected in step %u\n", digits, code, verdicts[i]);
