@@ -405,15 +405,15 @@ module _ (t : Trial) (i : ℕ) (h : i < t .shape .offers) where
     pub aside-figure : getD (trialFigures t) i 0 ≡ rowTotal t
     aside-figure = trialfigures.trial-aside t i h q
 
-  -- the count of an offer that remains is that of document 01
-  pub tested-count : untested (t .shape .design) (figuresAt t i) ≡ false → getD (trialRun t .counts) i 0 ≡ atLeast (trialRows t) (getD (getD (trialRows t) 0 []) i nan) i
-  unfolding trialRun
-  tested-count = asides.tested-count t (trialRows t) i h
-
   -- its byte for C is 255, and no other's is; a rejected offer's is the step, from 1 to 32
   pub bytes-tell : Tells (getD (trialRun t .verdicts) i (Kept plusZero)) × Tells (getD (trialBalancedRun t .verdicts) i (Kept plusZero))
   unfolding trialRun trialBalancedRun
   bytes-tell = (run-tells (trialRows t) (trialStart t) refl i h (Kept plusZero), run-tells (balancedRows (trialRows t)) (trialStart t) refl i h (Kept plusZero))
+
+  -- the count of an offer that remains is that of document 01
+  pub tested-count : untested (t .shape .design) (figuresAt t i) ≡ false → getD (trialRun t .counts) i 0 ≡ atLeast (trialRows t) (getD (getD (trialRows t) 0 []) i nan) i
+  unfolding trialRun
+  tested-count = asides.tested-count t (trialRows t) i h
 
 -- demand 2 is read over the offers that remain: the run of an accepted trial is that of its table without the columns of the others. Its records are the
 -- same, and of the offers that remain, in their order, verdicts and counts; the balanced run is that of the smaller table, balanced
