@@ -74,8 +74,8 @@ uint32_t becardlarder_trial_verdicts(const uint8_t *file, size_t file_len, uint8
  * Runs a table of rows times columns values, row after row, one of which is the observed row. An offer is a column.
  *
  * A table has 1 to BECARDLARDER_MOST_ROWS rows and 1 to BECARDLARDER_MOST_COLUMNS columns. The tolerance k is from 1 to 4
- * and at most the columns, the level is a/b with 0 < a < b <= 16383, and rows count from 0. No column is set aside, also
- * where all its values are 0.
+ * and at most the columns, the level is a/b with 0 < a < b <= 16383, and rows count from 0. No column is set aside, not even
+ * one whose values are all 0.
  *
  * Returns the number of rejected columns. verdicts[j] is then the step that rejected column j, or 0 where it is kept, and
  * the first `rows` places of work hold plus zero; places beyond are unchanged in both. The buffers need a byte for each

@@ -10,7 +10,7 @@ from reference import adjusted, balanced, ccall, method, report, sheet, table, t
 from reference.method import Record
 from reference.refusals import Refused
 from reference.table import Aside, Kept, Rejected
-from test_reference import idle_rejected, subsets
+from test_reference import idle_rejected, is_plus_zero, subsets
 
 BOTH = ((trial.full_run, report.report, ccall.on_file),
         (balanced.trial_run, balanced.report, ccall.balanced_on_file))
@@ -18,10 +18,6 @@ BOTH = ((trial.full_run, report.report, ccall.on_file),
 
 def report_of(name) -> str:
     return report.report(trialfile.write(ASIDE[name]))
-
-
-def is_plus_zero(value) -> bool:
-    return str(value) == "0.0"
 
 
 def without(one, offers):

@@ -9,13 +9,13 @@ import subprocess
 import tempfile
 import unittest
 from dataclasses import dataclass
-from itertools import islice
+from itertools import chain, islice
 from pathlib import Path
 
-from cases import every_case_of, every_table_case
+from cases import cases_of, every_case_of, every_table_case
 from commands import rt, run
 from expected import MARK
-from generators.kinds import TableCase
+from generators.kinds import FileCase, TableCase
 from reference import balanced, ccall
 from reference.adjusted import figures_refusal
 from reference.refusals import Refused
@@ -87,9 +87,14 @@ def file_call(frame: bytes, call, case, room: int) -> Call:
                 struct.pack("<I", result) + buffer + bytes([MARK]) * GUARD)
 
 
+def with_examples(family: str, kind):
+    """Every case of the family, and the examples of its kind."""
+    return chain(every_case_of(family), (case for case in cases_of("example") if isinstance(case, kind)))
+
+
 def file_calls(frame: bytes, call):
     """Every file case, with buffers too short, exact and longer."""
-    for case in every_case_of("file"):
+    for case in with_examples("file", FileCase):
         trial = read(case.data)
         rooms = {0, 16} if isinstance(trial, Refused) else {trial.offers - 1, trial.offers}
         for room in sorted(rooms | {case.buffer_room}):
@@ -119,7 +124,7 @@ def table_call(case, room: int, values=None) -> Call:
 
 def table_calls():
     """Every table case, with verdict buffers too short, exact and longer; those of `order` with exact ones."""
-    for case in every_case_of("table"):
+    for case in with_examples("table", TableCase):
         needed = min(case.columns, 40)
         for room in sorted({0, max(needed, 1) - 1, needed, needed + 3}):
             yield table_call(case, room)
@@ -143,7 +148,7 @@ def file_adjusted_call(case, room: int) -> Call:
 
 def file_adjusted_calls():
     """Every file case, with buffers of no place, too short, exact and longer."""
-    for case in every_case_of("file"):
+    for case in with_examples("file", FileCase):
         trial = read(case.data)
         rooms = {16} if isinstance(trial, Refused) else {trial.offers - 1, trial.offers,
                                                          trial.offers + 2}

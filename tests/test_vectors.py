@@ -195,7 +195,7 @@ class Covered(unittest.TestCase):
             self.assertGreaterEqual(sums.count(0), 5)
 
     def test_runs_aside(self):
-        """Other offers are rejected where zeros are a column as any, plain or balanced; and these two differ."""
+        """Another list than where the zeros are a column like any other, plain and balanced; and these two differ."""
         for trials in self.trials_aside():
             differ = Counter()
             for trial in trials:
@@ -255,7 +255,7 @@ class Covered(unittest.TestCase):
             self.assertGreaterEqual(sum(lengths[n] for n in range(3, 34)), 20, lengths)
 
     def test_examples(self):
-        """The examples of document 01 that have no star, and those that have one."""
+        """The examples of document 01 that have no star, and those that have one; W with an offer set aside."""
         def read_number(name):
             return number_of(read(self.cases[name].data))
         self.assertEqual([read_number(f"example-1-offers-{n}-pairs") for n in (9, 10)], [0, 4])

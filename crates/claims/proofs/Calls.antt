@@ -220,7 +220,7 @@ pub table-accepted : (t : Trial) (buf : List Float) → tableCallRefusal t (leng
 unfolding tableBuffer tableCallRefusal
 table-accepted t buf h = answered (tableCallChecks t (length buf)) _ (λ _. buf) .gives h
 
--- from C: the number of rejected offers, and the rejecting steps in the first bytes
+-- from C: the number of rejected offers, and the verdicts in the first bytes
 pub c-trial-accepted : (file verdicts : List ℕ) → trialVerdictsRefusal file (length verdicts) ≡ 0 → let ds = fileRun file .run .decisions in
     (trialVerdictsAnswer file (length verdicts) ≡ rejectedCount (fileOffers file) ds) × (trialVerdictsBuffer file verdicts ≡ written (verdictBytes (fileOffers file) ds) verdicts)
 unfolding trialVerdictsAnswer trialVerdictsBuffer trialVerdictsRefusal
@@ -251,7 +251,7 @@ c-table-adjusted t rows columns k observed work figures h =
     let cs = tableAdjustedChecks t rows columns k observed (length work) (length figures) in
     (answered cs _ (λ n. 100 + n) .gives h, answered cs _ (λ _. work) .gives h, answered cs _ (λ _. figures) .gives h)
 
--- the calls over balanced tables: 0 and the balanced table; of a file the number of rejected offers of its balanced run, and the rejecting steps
+-- the calls over balanced tables: 0 and the balanced table; of a file the number of rejected offers of its balanced run, and the verdicts
 pub c-table-balanced : (t : List Float) (rows columns : ℕ) (out : List Float) → balanceRefusal t rows columns (length out) ≡ 0
     → (tableBalancedAnswer t rows columns (length out) ≡ 0) × (balanceBuffer t rows columns out ≡ written (balancedTable t rows columns) out)
 unfolding tableBalancedAnswer balanceBuffer balanceRefusal
