@@ -32,7 +32,7 @@ use Rattle.runs.specs.FullRuns.{isRejected}
 use Rattle.runs.specs.declared.Verdict.the-variants.{Kept}
 use Rattle.runs.proofs.Told.{verdict-aside}
 use Rattle.runs.proofs.RejectedSets.{rejectedSetAt}
-use Rattle.runs.proofs.RejectedVerdicts.{verdict-at, too-few-kept}
+use Rattle.runs.proofs.RejectedVerdicts.{verdict-at, too-few-none}
 use Rattle.runs.proofs.Loosening.{loosening}
 use Rattle.adjustment.specs.Adjusted.{leastBelow, rejectedAt, adjustedFigure, adjustedFigures}
 
@@ -83,7 +83,7 @@ module _ (X : List (List Float)) (rows columns k observed live j : ℕ) where
   module _ (h : j < columns) where
     pub rejected-few : size (columnsOf columns live) < k → (e : ℕ) → rejectedAt X rows columns k observed live e j ≡ false
     unfolding rejectedAt
-    rejected-few few e = too-few-kept X rows columns k e observed live j h few
+    rejected-few few e = too-few-none X rows columns k e observed live j h few
 
     rejected-aside : inSet live j ≡ false → (e : ℕ) → rejectedAt X rows columns k observed live e j ≡ false
     unfolding rejectedAt

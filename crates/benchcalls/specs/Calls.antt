@@ -3,8 +3,8 @@
 --   figuresOf t              a, b, k, offers and pairs of a trial
 --   codesOf t, digitsOf t, differencesOf t     its arrays
 --   trialFrom fs codes digits differences      the trial of these figures and arrays
---   criticalOfRecord m, stepOfDecision d       the critical value of a record; the number that tells a verdict
---   stepsIn f, criticalsIn f, countsIn f, verdictsOf f     parts of a full run: how many steps, critical values, counts, rejecting steps
+--   criticalOfRecord m, byteOfDecision d       the critical value of a record; the number that tells a verdict
+--   stepsIn f, criticalsIn f, countsIn f, verdictsOf f     parts of a full run: how many steps, critical values, counts, verdicts as numbers
 --   fromFile part bytes old              a place after `bench_read`: a part of the file's trial
 --   lengthWritten t places old           the length's place after `bench_write` into so many bytes
 --   lengthRendered bytes places old      the length's place after `bench_report` into so many bytes
@@ -58,8 +58,8 @@ trialFrom fs codes digits differences = record {
 abbrev pub criticalOfRecord : Record → Float
 criticalOfRecord m = m .critical
 
-abbrev pub stepOfDecision : Decision → ℕ
-stepOfDecision d = verdictByte (d .verdict)
+abbrev pub byteOfDecision : Decision → ℕ
+byteOfDecision d = verdictByte (d .verdict)
 
 abbrev pub stepsIn : FullRun → ℕ
 stepsIn f = f .steps
@@ -71,7 +71,7 @@ abbrev pub countsIn : FullRun → List ℕ
 countsIn f = f .counts
 
 abbrev pub verdictsOf : FullRun → List ℕ
-verdictsOf f = map stepOfDecision (f .decisions)
+verdictsOf f = map byteOfDecision (f .decisions)
 
 -- ---- the lent places
 

@@ -17,7 +17,7 @@ ghost use Rattle.stepdown.specs.Answers.{fullWork};
 ghost use Rattle.trialfile.specs.Files.{fileRefusal};
 ghost use Rattle.trialwriter.specs.Writings.{writeRefusal, afterWriting};
 ghost use Rattle.rendering.specs.Renderings.{renderRefusal, afterRendering};
-ghost use Rattle.benchcalls.specs.Calls.{figuresOf, codesOf, digitsOf, differencesOf, trialFrom, criticalOfRecord, stepOfDecision, stepsIn, criticalsIn, countsIn, verdictsOf, fromFile, lengthWritten, lengthRendered, fromTable};
+ghost use Rattle.benchcalls.specs.Calls.{figuresOf, codesOf, digitsOf, differencesOf, trialFrom, criticalOfRecord, byteOfDecision, stepsIn, criticalsIn, countsIn, verdictsOf, fromFile, lengthWritten, lengthRendered, fromTable};
 
 // The parts of a trial into arrays, the first one a, b, k, offers and pairs.
 fn take_apart(
@@ -146,19 +146,19 @@ fn criticals_of(records: [Record; 32]) -> [f64; 32]
 }
 
 // The numbers that tell verdicts: the rejecting step, 0 for kept. (No column of a table is set aside.)
-fn steps_of(decisions: [Decision; 32]) -> [usize; 32]
-    ensures { λ r. ⌜ r ≡ map stepOfDecision decisions ⌝ }
+fn bytes_of(decisions: [Decision; 32]) -> [usize; 32]
+    ensures { λ r. ⌜ r ≡ map byteOfDecision decisions ⌝ }
 {
-    let mut steps = [0usize; 32];
+    let mut bytes = [0usize; 32];
     let mut j: usize = 0;
     while j < 32 {
         let d = decisions[j];
         let v = d.verdict;
         let s = verdicts::verdict_byte(v);
-        steps[j] = s;
+        bytes[j] = s;
         j += 1;
     }
-    steps
+    bytes
 }
 
 // The full run of a table: how many steps, the critical value of each, and for each column the count and the verdict, which is the rejecting step or 0.
@@ -193,7 +193,7 @@ pub extern "C" fn bench_table(
         let n = run.counts;
         *counts = n;
         let decisions = run.decisions;
-        let s = steps_of(decisions);
+        let s = bytes_of(decisions);
         *verdicts = s;
     }
     run.refusal

@@ -31,13 +31,12 @@ use Rattle.adjustment.specs.declared.Adjusted.{Adjusted}
 use Rattle.balance.specs.Balance.{balancedTable}
 use Rattle.tablebalance.specs.Answers.{badCounts, balanceChecks, balanceRefusal, balanceBuffer, balancedRun, balancedChecks, balancedRefusal, balancedAnswer}
 use Rattle.verdicts.specs.Verdicts.{rejectedCount}
-use Rattle.trial.specs.Aside.{liveMask}
 use Rattle.trial.specs.Exchange.{rowTotal, tableOf}
 use Rattle.trial.specs.Designs.{designChecks}
 use Rattle.trial.specs.Record.{figureCount, settingOf, figuresOf}
 use Rattle.trial.specs.Refusals.{headingChecks, offerChecks, figureChecks, nth, contentChecks, trialChecks}
 use Rattle.trial.specs.declared.Shape.{Shape}
-use Rattle.trial.specs.Lent.{tableCallChecks, tableCallRefusal, tableBuffer}
+use Rattle.trial.specs.Lent.{fullSize, refusedSize, tableCallChecks, tableCallRefusal, tableBuffer}
 use Rattle.trial.specs.declared.TableSize.{TableSize}
 use Rattle.trial.specs.declared.Trial.{Trial}
 use Rattle.words.specs.Words.{wordsOf, word}
@@ -47,7 +46,7 @@ use Rattle.trialfile.specs.Files.{badLength, levelPlace, shapePlace, offerPlace
 use Rattle.trialwriter.specs.Writings.{fileLength, writeChecks, writeRefusal, writingOf}
 use Rattle.trialwriter.specs.declared.Writing.{Writing}
 use Rattle.trialfile.proofs.Taken.{read-refusal}
-use Rattle.trialrun.specs.TrialRuns.{trialRun, runCallChecks, runCallRefusal, refusedSize, runSize, trialAnswer}
+use Rattle.trialrun.specs.TrialRuns.{trialRun, runCallChecks, runCallRefusal, runSize, trialAnswer}
 use Rattle.trialrun.specs.FileRuns.{fileRun}
 use Rattle.trialadjustment.specs.TrialFigures.{trialFigures, trialFiguresAnswer}
 use Rattle.trialbalance.specs.TrialBalance.{trialBalancedRun, trialBalancedAnswer}
@@ -185,7 +184,7 @@ balanced-number t rows columns k a b observed places work = answer-map (λ (f : 
 -- the table that is made for a run of a trial, and the runs: one number
 pub size-number : (t : Trial) (places work : ℕ) → runSize t places work .refusal ≡ runCallRefusal t places work
 unfolding runSize runCallRefusal
-size-number t places work = answer-map (λ (s : TableSize). s .refusal) (runCallChecks t places work) (record { refusal = 0; rows = rowTotal t; columns = t .shape .offers; live = liveMask t }) refusedSize
+size-number t places work = answer-map (λ (s : TableSize). s .refusal) (runCallChecks t places work) (fullSize t) refusedSize
 
 pub trial-number : (t : Trial) (places work : ℕ) → trialAnswer t places work .refusal ≡ runCallRefusal t places work
 unfolding trialAnswer runCallRefusal acceptedRun

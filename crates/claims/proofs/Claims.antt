@@ -33,7 +33,7 @@ use Rattle.runs.specs.Tables.{tableStart, tableRun}
 use Rattle.runs.specs.Examples.{examples}
 use Rattle.runs.proofs.Examples.{all-examples}
 use Rattle.runs.proofs.Told as told
-use Rattle.verdicts.proofs.StepNumbers.{Tells, run-tells}
+use Rattle.verdicts.proofs.Bytes.{Tells, run-tells}
 use Rattle.stepdown.specs.Runs.{begun, stateOf, nextRun}
 use Rattle.stepdown.specs.Refusals.{tableRefusal, tableRunChecks, tableRunRefusal, stepRefusal}
 use Rattle.stepdown.specs.Answers.{fullAnswer, fullWork}

@@ -27,14 +27,14 @@ use Rattle.runs.specs.Stepdown.{firstState, Outcome, fullRun}
 use Rattle.trial.specs.Aside.{liveOffers, liveMask}
 use Rattle.trial.specs.Designs.{unitsOf, rowCount, entryOf, untested}
 use Rattle.trial.specs.Record.{figuresOf, Setting, Keeps}
-use Rattle.trial.specs.Exchange.{byOffer, rowTotal, rowOf, trialRows}
+use Rattle.trial.specs.Exchange.{byOffer, figuresAt, rowTotal, rowOf, trialRows}
 use Rattle.trial.specs.Refusals.{trialRefusal}
 use Rattle.trial.specs.declared.Design.{Design}
 use Rattle.trial.specs.declared.Shape.{Shape}
 use Rattle.trial.specs.declared.Trial.{Trial}
 use Rattle.trial.proofs.Accepted.{Accepted, accepted}
 use Rattle.trial.proofs.Aside.{untested-listed, live-at, live-bit}
-use Rattle.trial.proofs.Tables.{rowOf-length, trialRows-length, trialRows-row, trialRows-sound, rowTotal-some}
+use Rattle.trial.proofs.Tables.{byOffer-length, rowOf-length, trialRows-length, trialRows-row, trialRows-sound, rowTotal-some}
 use Rattle.trialrun.specs.TrialRuns.{trialStart, trialRun}
 use Rattle.balance.specs.Balance.{balancedRows}
 use Rattle.trialbalance.specs.TrialBalance.{trialBalancedRun}
@@ -42,15 +42,15 @@ use Rattle.control.proofs.General.{keysAt, Member, Family, counted, gen
 use Rattle.control.proofs.Balanced.{balanced-family}
 use Rattle.control.proofs.Listings.{moved, moved-back, moved-lt, moved-first, entry-listed}
 use Rattle.control.proofs.Reorder.{keys-same, reordered}
-use Rattle.control.specs.Statements.{runsThatReject, figuresAt, ListedOn}
+use Rattle.control.specs.Statements.{runsThatReject, ListedOn}
 
 -- ---- an offer of a trial
 
 row-at : (t : Trial) (h i : ℕ) → i < t .shape .offers → getD (rowOf t h) i nan ≡ ofInt binary64 (entryOf (t .shape .design) h (figuresAt t i))
-unfolding rowOf byOffer
+unfolding rowOf
 row-at t h i l =
     let d = t .shape .design in
-    getD-map (λ xs. ofInt binary64 (entryOf d h xs)) (byOffer t) i [] nan (omega (arith, rowsOf-length (t .shape .offers) (unitsOf d) (figuresOf t)))
+    getD-map (λ xs. ofInt binary64 (entryOf d h xs)) (byOffer t) i [] nan (omega (arith, byOffer-length t))
 
 -- ---- run g of a family of trials
 
@@ -79,7 +79,7 @@ module _ (t u : Trial) (g : ℕ) (idle : ℕ → Bool) (keeps : Keeps t u) (list
   idle-alike i l q = ap₂ (λ (d : Design) (xs : List ℤ). untested d xs) design-kept (listing i l q) ∙ untested-listed (t .shape .design) g (figuresAt t i)
 
   idle-bit : (i : ℕ) → i < t .shape .offers → T (idle i) → inSet (liveMask u) i ≡ has (liveOffers t) i
-  idle-bit i l q = let m : i < u .shape .offers = omega (arith, offers-kept) in live-bit u i m ∙ live-at u i m ∙ ap not (idle-alike i l q) ∙ sym (live-at t i l)
+  idle-bit i l q = let m : i < u .shape .offers = omega (arith, offers-kept) in live-bit u i m ∙ ap not (idle-alike i l q) ∙ sym (live-at t i l)
 
 -- ---- the theorem
 

@@ -1,5 +1,5 @@
 -- The full run that a trace makes, column by column.
---   count             a column's count, by the place of its observed value in the table
+--   observedCount     a column's count, by the place of its observed value in the table
 --   partialRun        with the verdicts and counts of the first j columns
 --   trace-verdict     a verdict read off the trace of steps is the verdict of those steps
 --   counted-can       the first state can be stepped where k or more columns are live
@@ -35,9 +35,12 @@ use Rattle.masks.specs.Internal.{CheckedTable}
 use Rattle.engine.specs.Internal.{CanStep, Traced, traceOf, verdictOver, verdictIn, toldIn, finishedRun}
 use Rattle.engine.specs.declared.tracing.Trace.{Trace}
 
+abbrev pub observedCount : List Float → ℕ → ℕ → ℕ → ℕ → ℕ
+observedCount table rows columns observed i = atLeast (rowsOf rows columns table) (getD table (observed * columns + i) nan) i
+
 module _ (t : Trace) (table : List Float) (rows columns e observed live : ℕ) where
-  abbrev pub count : ℕ → ℕ
-  count i = atLeast (rowsOf rows columns table) (getD table (observed * columns + i) nan) i
+  abbrev count : ℕ → ℕ
+  count i = observedCount table rows columns observed i
 
   verdicts : ℕ → List Decision
   verdicts j = map decision (tabulate j (λ i. toldIn live t i))
@@ -53,7 +56,7 @@ module _ (t : Trace) (table : List Float) (rows columns e observed live : ℕ) w
   unfolding partialRun verdicts counts tabulate
   partial-start r q = ap (λ (x : FullRun). record { refusal = x .refusal; rows = rows; e = e; steps = t .steps; records = t .records; decisions = x .decisions; counts = x .counts }) q
 
-  module _ (j : ℕ) (f : FullRun) (v : Verdict) (cs : List ℕ) (n : ℕ) (h : j < 32) (l : j < columns) (w : f ≡ partialRun j) (p : v ≡ toldIn live t j) (r : cs ≡ padded 32 0 (tabulate columns count)) where
+  module _ (j : ℕ) (f : FullRun) (v : Verdict) (cs : List ℕ) (n : ℕ) (h : j < 32) (l : j < columns) (w : f ≡ partialRun j) (p : v ≡ toldIn live t j) (r : cs ≡ padded 32 0 (tabulate columns (observedCount table rows columns observed))) where
     verdicts-turn : set (padded 32 (decision (Kept plusZero)) (verdicts j)) j (decision v) ≡ padded 32 (decision (Kept plusZero)) (verdicts (j + 1))
     unfolding verdicts
     verdicts-turn =
@@ -137,8 +140,8 @@ module _ (table : List Float) (rows columns k e observed live : ℕ) where
       vs : tabulate columns (λ j. toldIn live (traceOf ss) j) ≡ tabulate columns (λ j. verdictAt start ss j)
       vs = tabulate-same columns (λ j. toldIn live (traceOf ss) j) (λ j. verdictAt start ss j) (λ j l. ap (λ (v : Verdict). cond (inSet live j) v Aside) (trace-verdict ss j))
 
-      cs : tabulate columns (λ j. cond (inSet live j) (atLeast (rowsOf rows columns table) (getD table (observed * columns + j) nan) j) 0) ≡ tabulate columns (λ j. countAt (rowsOf rows columns table) start j)
-      cs = tabulate-same columns (λ j. cond (inSet live j) (atLeast (rowsOf rows columns table) (getD table (observed * columns + j) nan) j) 0) (λ j. countAt (rowsOf rows columns table) start j)
+      cs : tabulate columns (λ j. cond (inSet live j) (observedCount table rows columns observed j) 0) ≡ tabulate columns (λ j. countAt (rowsOf rows columns table) start j)
+      cs = tabulate-same columns (λ j. cond (inSet live j) (observedCount table rows columns observed j) 0) (λ j. countAt (rowsOf rows columns table) start j)
           (λ j l. ap (λ (v : Float). cond (inSet live j) (atLeast (rowsOf rows columns table) v j) 0) (sym (row-entry table rows columns observed j nan h l)))
 
   -- the same state, its live columns counted as n

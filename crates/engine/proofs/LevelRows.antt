@@ -1,4 +1,6 @@
--- Laws of levels: M times a fits, and b is not zero.
+-- Laws of levels.
+--   level-fits      M times a fits
+--   level-some      b is not zero
 use Prim.Native.Nat.{ℕ, _*_, _^_, _≤_, _<_}
 use native.Mathlib.Nat.{mul-le-mul-right}
 use native.Mathlib.Omega.{arith}

@@ -1,5 +1,5 @@
-// The stepdown method at e and over the live columns, on a table that has passed its checks: one step, and the full run.
-// INNER: these functions ask for what they need (`requires`): a checked table, or a buffer that is long enough. Their callers are the crates that refuse bad input.
+// The stepdown method at e and over the live columns, on a table that has passed its checks: e at a level, one step, and the full run.
+// INNER: these functions ask for what they need (`requires`): a checked table, a level in range, or a buffer that is long enough. Their callers are the crates that refuse bad input.
 mod levels; // e, at a level
 mod steps; // one step
 mod tracing; // all steps of a run, and the verdicts read off them

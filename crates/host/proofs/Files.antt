@@ -15,7 +15,7 @@ use Rattle.runs.specs.Stepdown.{Outcome, fullRun}
 use Rattle.runs.specs.FullRuns.{acceptedRun}
 use Rattle.verdicts.specs.Verdicts.{rejectedCount}
 use Rattle.verdicts.specs.Internal.{smallBytes}
-use Rattle.verdicts.proofs.StepNumbers.{run-bytes}
+use Rattle.verdicts.proofs.Bytes.{run-bytes}
 use Rattle.trial.specs.declared.Trial.{Trial}
 use Rattle.trial.proofs.Accepted.{accepted}
 use Rattle.words.specs.Words.{wordsOf}

@@ -20,7 +20,7 @@ use Rattle.runs.specs.declared.Decision.{Decision}
 use Rattle.runs.specs.declared.Verdict.the-variants.{Kept}
 use Rattle.verdicts.specs.Verdicts.{verdictByte, rejectedCount}
 use Rattle.verdicts.specs.Internal.{smallBytes}
-use Rattle.verdicts.proofs.StepNumbers.{run-bytes}
+use Rattle.verdicts.proofs.Bytes.{run-bytes}
 use Rattle.verdicts.proofs.Counted.{count-few}
 
 abbrev pub byteOf : Decision → ℕ

@@ -21,7 +21,7 @@ use Rattle.runs.specs.declared.Verdict.the-variants.{Rejected, Kept, Aside}
 use Rattle.runs.proofs.Told.{verdicts-length, counts-length}
 use Rattle.trial.specs.Aside.{liveOffers}
 use Rattle.trial.specs.Designs.{untested}
-use Rattle.trial.specs.Exchange.{byOffer}
+use Rattle.trial.specs.Exchange.{figuresAt}
 use Rattle.trial.specs.declared.Trial.{Trial}
 use Rattle.trialrun.specs.TrialRuns.{trialStart}
 use Rattle.trialrun.proofs.Aside.{aside-verdict, aside-count, few-none, few-told}
@@ -51,12 +51,12 @@ module _ (t : Trial) (X : List (List Float)) (i : ℕ) (h : i < t .shape .offers
   count-is : getD (acceptedRun (fullRun X (trialStart t)) .counts) i 0 ≡ getD (fullRun X (trialStart t) .counts) i 0
   count-is = count-at run i (omega (arith, counts-length X (trialStart t)))
 
-  pub aside-line : T (untested (t .shape .design) (getD (byOffer t) i []))
+  pub aside-line : T (untested (t .shape .design) (figuresAt t i))
       → offerLineAt (t .labels) (acceptedRun (fullRun X (trialStart t))) i ≡ line (printed (getD (t .labels .digits) i 0) (getD (t .labels .codes) i 0)) (ascii "aside" ∷ decimal 0 ∷ decimal 0 ∷ [])
   aside-line q = ap₂ (λ (v : Verdict) (n : ℕ). offerLine (getD (t .labels .codes) i 0) (getD (t .labels .digits) i 0) v (acceptedRun run .steps) n)
       (verdict-is Aside (aside-verdict t X i h q (Kept plusZero))) (count-is ∙ aside-count t X i h q)
 
-  pub few-line : untested (t .shape .design) (getD (byOffer t) i []) ≡ false → size (liveOffers t) < t .shape .k
+  pub few-line : untested (t .shape .design) (figuresAt t i) ≡ false → size (liveOffers t) < t .shape .k
       → offerLineAt (t .labels) (acceptedRun (fullRun X (trialStart t))) i ≡ line (printed (getD (t .labels .digits) i 0) (getD (t .labels .codes) i 0)) (ascii "kept" ∷ decimal 0 ∷ decimal (getD (fullRun X (trialStart t) .counts) i 0) ∷ [])
   unfolding acceptedRun
   few-line q few =

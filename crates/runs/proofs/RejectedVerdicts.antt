@@ -1,6 +1,6 @@
 -- The verdicts of a full run, by rejected sets alone.
 --   verdict-at       where k or more columns are live, a column's verdict is rejected exactly where the method rejects it at the run's e
---   too-few-kept     where fewer are, no step is taken and no column is rejected
+--   too-few-none     where fewer are, no step is taken and no column is rejected
 use Prim.Native.Nat.{ℕ, zero, suc, _+_, _≤_, _<_}
 use native.Mathlib.Numerals.{add-one}
 use mathlib.Core.Path.{_≡_, refl, sym, ap, ap₂, _∙_, subst}
@@ -113,6 +113,6 @@ module _ (X : List (List Float)) (rows columns k e observed live : ℕ) (j : ℕ
       R : Bool
       R = has (rejectedSetAt k e X (columnsOf columns live) observed) j
 
-  pub too-few-kept : size (columnsOf columns live) < k → isRejected (getD (fullRun X (firstState rows columns k e observed live) .verdicts) j (Kept plusZero)) ≡ false
+  pub too-few-none : size (columnsOf columns live) < k → isRejected (getD (fullRun X (firstState rows columns k e observed live) .verdicts) j (Kept plusZero)) ≡ false
   unfolding stepsFrom
-  too-few-kept few = run-verdict true (lt-ltb (size (columnsOf columns live)) k few) ∙ same-test (inSet live j && false) false (and-right (inSet live j) false) (λ t. absurd t)
+  too-few-none few = run-verdict true (lt-ltb (size (columnsOf columns live)) k few) ∙ same-test (inSet live j && false) false (and-right (inSet live j) false) (λ t. absurd t)

@@ -1,10 +1,9 @@
 -- Laws of offers that are set aside (document 02, §4).
 --   isZero                            a difference is 0
 --   untested-listed                   a zero stays a zero under a change of sign
---   byOffer-length, live-length       how many offers there are
---   live-at                           offer i takes part where it has been tested
---   live-fits, live-columns, live-bit     the offers that take part, as a mask
---   every-difference                  in pairs: an offer has not been tested exactly where each of its differences is 0
+--   live-length, live-at              the offers that take part: offer i where it has been tested
+--   live-fits, live-columns, live-bit     the same as a mask
+--   every-difference                  in pairs: an offer has not been tested exactly where each of its differences in the record is 0
 --   zeros-..                          one offer's differences, from pair j on, as the code tests them
 --   maskFrom, mask-..                 the mask of the offers from i on, as the code makes it
 --   slice-end, slice-length           the code's slice of an offer's figures: where it ends, and how long it is
@@ -14,7 +13,7 @@ use mathlib.Core.Path.{_≡_, refl, sym, ap, ap₂, _∙_, subst}
 use mathlib.Core.Logic.{_↔_}
 use mathlib.Core.Bool.{Bool, false, not, _&&_}
 use mathlib.Core.List.{List, [], _∷_, map}
-use lib.ListN.{length, getD, take, drop, length-map, length-drop, drop-of-length-le}
+use lib.ListN.{length, getD, take, drop, length-map, length-take, length-drop, drop-of-length-le}
 use lib.Seq.{drop-cons, length-take-le}
 use lib.Dec.{T, eqb, eqb→eq}
 use lib.IntN.{ℤ, pos, negsuc, natAbs}
@@ -25,23 +24,21 @@ use mir.Val.{toZ, ofZ}
 use mir.Facts.{toZ-ofZ}
 use Rattle.order.specs.Counting.{bit, all}
 use Rattle.order.specs.Lists.{rowsOf}
-use Rattle.order.proofs.Booleans.{T-false, and-both}
-use Rattle.order.proofs.Counts.{all-getD}
-use Rattle.order.proofs.Lists.{part-rows, getD-map, rowsOf-length, rowsOf-row}
+use Rattle.order.proofs.Booleans.{T-false, and-left, and-right, and-both}
+use Rattle.order.proofs.Lists.{part-rows, getD-map, rowsOf-length, rowsOf-row, row-entry}
 use Rattle.order.proofs.Slices.{all-turn, all-out}
 use Rattle.columns.specs.Columns.{Columns, inSet, columnsOf, maskOf}
 use Rattle.columns.proofs.Sets.{has}
 use Rattle.columns.proofs.Masks.{columnsOf-maskOf, maskOf-lt, has-columnsOf}
 use Rattle.limits.specs.Limits.{offersMost}
 use Rattle.trial.specs.Designs.{exchangedBy, unitsOf, listed, untested}
-use Rattle.trial.specs.Record.{figuresOf}
-use Rattle.trial.specs.Exchange.{byOffer}
+use Rattle.trial.specs.Exchange.{byOffer, figuresAt}
 use Rattle.trial.specs.Aside.{liveOffers, liveMask}
 use Rattle.trial.specs.declared.Design.{Design}
 use Rattle.trial.specs.declared.Design.the-variants.{Paired}
 use Rattle.trial.specs.declared.Trial.{Trial}
 use Rattle.trial.proofs.Sums.{abs-exchanged}
-use Rattle.trial.proofs.Tables.{byOffer-figures}
+use Rattle.trial.proofs.Tables.{byOffer-figures, byOffer-length}
 
 -- ---- differences that are 0
 
@@ -64,22 +61,6 @@ pub untested-listed : (d : Design) (g : ℕ) (xs : List ℤ) → untested d (lis
 unfolding untested listed
 untested-listed (Paired n) g xs = zeros-exchanged g xs
 
--- what the test says, pair by pair
-all-zero : (xs : List ℤ) → T (all isZero xs) ↔ ((j : ℕ) → j < length xs → getD xs j (pos 0) ≡ pos 0)
-unfolding all
-all-zero xs = (
-  λ t j h. zero-is (getD xs j (pos 0)) (all-getD isZero xs j (pos 0) h t),
-  λ f. each xs f,
-)
-  where
-    each : (ys : List ℤ) → ((j : ℕ) → j < length ys → getD ys j (pos 0) ≡ pos 0) → T (all isZero ys)
-    each [] f = tt
-    each (y ∷ ys) f = and-both (isZero y) (all isZero ys) (subst (λ (x : ℤ). T (isZero x)) (sym (f 0 (omega arith))) tt) (each ys (λ j h. f (suc j) (omega arith)))
-
-pub every-difference : (pairs : ℕ) (xs : List ℤ) → T (untested (Paired pairs) xs) ↔ ((j : ℕ) → j < length xs → getD xs j (pos 0) ≡ pos 0)
-unfolding untested
-every-difference pairs xs = all-zero xs
-
 untested-zeros : (d : Design) (xs : List ℤ) → untested d xs ≡ all isZero xs
 unfolding untested
 untested-zeros (Paired n) xs = refl
@@ -87,17 +68,13 @@ untested-zeros (Paired n) xs = refl
 -- ---- which offers take part
 
 module _ (t : Trial) where
-  pub byOffer-length : length (byOffer t) ≡ t .shape .offers
-  unfolding byOffer
-  byOffer-length = rowsOf-length (t .shape .offers) (unitsOf (t .shape .design)) (figuresOf t)
-
   pub live-length : length (liveOffers t) ≡ t .shape .offers
   unfolding liveOffers
-  live-length = length-map (byOffer t) (λ xs. not (untested (t .shape .design) xs)) ∙ byOffer-length
+  live-length = length-map (byOffer t) (λ xs. not (untested (t .shape .design) xs)) ∙ byOffer-length t
 
-  pub live-at : (i : ℕ) → i < t .shape .offers → getD (liveOffers t) i false ≡ not (untested (t .shape .design) (getD (byOffer t) i []))
+  pub live-at : (i : ℕ) → i < t .shape .offers → has (liveOffers t) i ≡ not (untested (t .shape .design) (figuresAt t i))
   unfolding liveOffers
-  live-at i h = getD-map (λ xs. not (untested (t .shape .design) xs)) (byOffer t) i [] false (omega (arith, byOffer-length))
+  live-at i h = getD-map (λ xs. not (untested (t .shape .design) xs)) (byOffer t) i [] false (omega (arith, byOffer-length t))
 
   pub live-fits : liveMask t < 2 ^ (t .shape .offers)
   unfolding liveMask
@@ -107,8 +84,38 @@ module _ (t : Trial) where
   unfolding liveMask
   live-columns = ap (λ (n : ℕ). columnsOf n (liveMask t)) (sym live-length) ∙ columnsOf-maskOf (liveOffers t)
 
-  pub live-bit : (i : ℕ) → i < t .shape .offers → inSet (liveMask t) i ≡ has (liveOffers t) i
-  live-bit i h = sym (has-columnsOf (t .shape .offers) (liveMask t) i h) ∙ ap (λ (K : Columns). has K i) live-columns
+  pub live-bit : (i : ℕ) → i < t .shape .offers → inSet (liveMask t) i ≡ not (untested (t .shape .design) (figuresAt t i))
+  live-bit i h = sym (has-columnsOf (t .shape .offers) (liveMask t) i h) ∙ ap (λ (K : Columns). has K i) live-columns ∙ live-at i h
+
+-- ---- what the test says of a record, pair by pair
+
+zero-at : (xs : List ℤ) → T (all isZero xs) → (j : ℕ) → getD xs j (pos 0) ≡ pos 0
+unfolding all
+zero-at [] t j = refl
+zero-at (x ∷ xs) t zero = zero-is x (and-left (isZero x) (all isZero xs) t)
+zero-at (x ∷ xs) t (suc j) = zero-at xs (and-right (isZero x) (all isZero xs) t) j
+
+all-zero : (xs : List ℤ) → ((j : ℕ) → j < length xs → getD xs j (pos 0) ≡ pos 0) → T (all isZero xs)
+unfolding all
+all-zero [] f = tt
+all-zero (x ∷ xs) f = and-both (isZero x) (all isZero xs) (subst (λ (y : ℤ). T (isZero y)) (sym (f 0 (omega arith))) tt) (all-zero xs (λ j h. f (suc j) (omega arith)))
+
+module _ (t : Trial) (pairs : ℕ) (d : t .shape .design ≡ Paired pairs) (i : ℕ) (h : i < t .shape .offers) where
+  row-is : figuresAt t i ≡ getD (rowsOf (t .shape .offers) pairs (t .figures)) i []
+  unfolding unitsOf
+  row-is = ap (λ (rs : List (List ℤ)). getD rs i []) (byOffer-figures t ∙ ap (λ (e : Design). rowsOf (t .shape .offers) (unitsOf e) (t .figures)) d)
+
+  figure-is : (j : ℕ) → j < pairs → getD (figuresAt t i) j (pos 0) ≡ getD (t .figures) (i * pairs + j) (pos 0)
+  figure-is j l = ap (λ (xs : List ℤ). getD xs j (pos 0)) row-is ∙ row-entry (t .figures) (t .shape .offers) pairs i j (pos 0) h l
+
+  row-most : length (figuresAt t i) ≤ pairs
+  row-most = omega (arith, ap length (row-is ∙ rowsOf-row (t .shape .offers) pairs (t .figures) i h), length-take pairs (drop (i * pairs) (t .figures)))
+
+  pub every-difference : T (untested (t .shape .design) (figuresAt t i)) ↔ ((j : ℕ) → j < pairs → getD (t .figures) (i * pairs + j) (pos 0) ≡ pos 0)
+  every-difference = (
+    λ q j l. sym (figure-is j l) ∙ zero-at (figuresAt t i) (subst (λ (b : Bool). T b) (untested-zeros (t .shape .design) (figuresAt t i)) q) j,
+    λ f. subst (λ (b : Bool). T b) (sym (untested-zeros (t .shape .design) (figuresAt t i))) (all-zero (figuresAt t i) (λ j l. let m : j < pairs = omega (arith, row-most) in figure-is j m ∙ f j m)),
+  )
 
 -- ---- the code: one offer's differences
 

@@ -15,7 +15,7 @@ use Rattle.trial.specs.Designs.{rowCount}
 use Rattle.trial.specs.Exchange.{rowTotal}
 use Rattle.trial.specs.Aside.{liveMask}
 use Rattle.trial.specs.Refusals.{trialChecks, trialRefusal}
-use Rattle.trial.specs.Lent.{sizeOf}
+use Rattle.trial.specs.Lent.{fullSize, refusedSize, sizeOf}
 use Rattle.trial.specs.declared.TableSize.{TableSize}
 use Rattle.trial.specs.declared.Trial.{Trial}
 use Rattle.trial.proofs.Accepted.{Accepted, accepted}
@@ -44,20 +44,14 @@ total-most t acc = mul-le-mul (acc .laid .rows-most) (acc .offers-most)
 
 -- ---- the size
 
-abbrev noSize : ℕ → TableSize
-noSize n = record { refusal = n; rows = 0; columns = 0; live = 0 }
-
-abbrev fullSize : Trial → TableSize
-fullSize t = record { refusal = 0; rows = rowTotal t; columns = t .shape .offers; live = liveMask t }
-
 module _ (t : Trial) (r : ℕ) (e : r ≡ trialRefusal t) where
-  pub size-refused : (r ≡ 0 → ⊥) → noSize r ≡ sizeOf t
+  pub size-refused : (r ≡ 0 → ⊥) → refusedSize r ≡ sizeOf t
   unfolding sizeOf trialRefusal
-  size-refused h = refused (fullSize t) noSize (trialChecks t) r e h
+  size-refused h = refused (fullSize t) refusedSize (trialChecks t) r e h
 
   pub size-is : r ≡ 0 → fullSize t ≡ sizeOf t
   unfolding sizeOf trialRefusal
-  size-is h = answers.accepted (fullSize t) noSize (trialChecks t) r e h
+  size-is h = answers.accepted (fullSize t) refusedSize (trialChecks t) r e h
 
   pub size-given : r ≡ 0 → (m l : ℕ) → m ≡ rowCount (t .shape .design) → l ≡ liveMask t → record { refusal = 0; rows = m; columns = t .shape .offers; live = l } ≡ sizeOf t
   unfolding rowTotal
@@ -68,12 +62,11 @@ pub record Sized (t : Trial) (s : TableSize) : Type 0 where
   pub refusal-is : s .refusal ≡ trialRefusal t
   pub rows-are : s .refusal ≡ 0 → s .rows ≡ rowTotal t
   pub columns-are : s .refusal ≡ 0 → s .columns ≡ t .shape .offers
-  pub live-is : s .refusal ≡ 0 → s .live ≡ liveMask t
 
 module _ (t : Trial) (s : TableSize) (q : s ≡ sizeOf t) where
   number-is : s .refusal ≡ trialRefusal t
   unfolding sizeOf trialRefusal firstRefusal
-  number-is = ap (λ (x : TableSize). x .refusal) q ∙ answer-map (λ (x : TableSize). x .refusal) (trialChecks t) (fullSize t) noSize
+  number-is = ap (λ (x : TableSize). x .refusal) q ∙ answer-map (λ (x : TableSize). x .refusal) (trialChecks t) (fullSize t) refusedSize
 
   full : s .refusal ≡ 0 → s ≡ fullSize t
   full z = q ∙ sym (size-is t (s .refusal) number-is z)
@@ -83,5 +76,4 @@ module _ (t : Trial) (s : TableSize) (q : s ≡ sizeOf t) where
     refusal-is = number-is;
     rows-are = λ z. ap (λ (x : TableSize). x .rows) (full z);
     columns-are = λ z. ap (λ (x : TableSize). x .columns) (full z);
-    live-is = λ z. ap (λ (x : TableSize). x .live) (full z);
   }

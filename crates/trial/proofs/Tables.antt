@@ -1,5 +1,5 @@
 -- Laws of a trial's table: its rows.
---   byOffer-figures                  the figures of each offer, in the array
+--   byOffer-figures, byOffer-length  the figures of each offer, in the array, and of how many
 --   entries-small, rowOf-all         the entries of a row are at most 2^53, and what holds of such numbers holds of its values
 --   rowOf-.., trialRows-..           how long rows are, how many, which; those of an accepted trial are finite
 --   even-rows, tableOf-rows          the lent table has these rows
@@ -60,6 +60,10 @@ pub byOffer-figures : (t : Trial) → byOffer t ≡ rowsOf (t .shape .offers) (u
 unfolding byOffer figureCount
 byOffer-figures t = rowsOf-take (t .shape .offers) (unitsOf (t .shape .design)) (t .figures)
 
+pub byOffer-length : (t : Trial) → length (byOffer t) ≡ t .shape .offers
+unfolding byOffer
+byOffer-length t = rowsOf-length (t .shape .offers) (unitsOf (t .shape .design)) (figuresOf t)
+
 -- an offer's differences: at most n of them, all in range
 okOffer : ℕ → List ℤ → Bool
 okOffer n ds = leb (length ds) n && all (λ d. not (badDifference d)) ds
@@ -86,8 +90,8 @@ used-twice t = take-take (figureCount (t .shape)) (figureCount (t .shape)) (t .f
 -- ---- the rows
 
 pub rowOf-length : (t : Trial) (g : ℕ) → length (rowOf t g) ≡ t .shape .offers
-unfolding rowOf byOffer
-rowOf-length t g = length-map (byOffer t) (λ xs. ofInt binary64 (entryOf (t .shape .design) g xs)) ∙ rowsOf-length (t .shape .offers) (unitsOf (t .shape .design)) (figuresOf t)
+unfolding rowOf
+rowOf-length t g = length-map (byOffer t) (λ xs. ofInt binary64 (entryOf (t .shape .design) g xs)) ∙ byOffer-length t
 
 ok-small : (d : Design) (g : ℕ) (xs : List ℤ) → unitsOf d ≤ pairsMost → T (okOffer (unitsOf d) xs) → natAbs (entryOf d g xs) ≤ 2 ^ 53
 unfolding okOffer

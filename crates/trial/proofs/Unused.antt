@@ -24,7 +24,7 @@ use Rattle.trial.specs.Record.{ArrayLengths, figureCount, Contents, cont
 use Rattle.trial.specs.Exchange.{byOffer, rowTotal, rowOf, trialRows, tableOf}
 use Rattle.trial.specs.Aside.{liveOffers, liveMask}
 use Rattle.trial.specs.Refusals.{contentChecks, trialChecks, trialRefusal}
-use Rattle.trial.specs.Lent.{sizeOf, tableCallChecks, tableCallRefusal, tableBuffer}
+use Rattle.trial.specs.Lent.{refusedSize, sizeOf, tableCallChecks, tableCallRefusal, tableBuffer}
 use Rattle.trial.specs.declared.Trial.{Trial}
 use Rattle.trial.proofs.LaidOut.{count-most}
 use Rattle.trial.proofs.Accepted.{accepted}
@@ -96,7 +96,7 @@ module _ (t u : Trial) (s : Same t u) where
   size-same =
       ap (λ (c : Contents). answer (contentChecks c)
       (record { refusal = 0; rows = rowCount (c .setting .shape .design); columns = c .setting .shape .offers; live = liveFrom c })
-      (λ r. record { refusal = r; rows = 0; columns = 0; live = 0 })) s
+      refusedSize) s
 
   calls-same : (places : ℕ) → tableCallChecks t places ≡ tableCallChecks u places
   unfolding tableCallChecks

@@ -1,11 +1,13 @@
 -- From pairs to a table (document 01). Definitions only.
 --   rowTotal t          M: the rows of a trial's table
 --   byOffer t           the figures of each offer
+--   figuresAt t i       those of offer i (from 0)
 --   rowOf t g           row g of its table: for each offer the exact whole number as an f64
 --   trialRows t         all rows
 --   tableOf t           the table as it is lent, row after row
 use Prim.Native.Nat.{ℕ}
-use mathlib.Core.List.{List, map}
+use mathlib.Core.List.{List, [], map}
+use lib.ListN.{getD}
 use lib.IntN.{ℤ}
 use lib.Ieee.{Float, binary64, ofInt}
 use Rattle.order.specs.Lists.{tabulate, rowsOf, joined}
@@ -20,6 +22,9 @@ rowTotal t = rowCount (t .shape .design)
 unfoldable pub byOffer : Trial → List (List ℤ)
 unfolding rowsOf unitsOf figureCount
 byOffer t = rowsOf (t .shape .offers) (unitsOf (t .shape .design)) (figuresOf t)
+
+abbrev pub figuresAt : Trial → ℕ → List ℤ
+figuresAt t i = getD (byOffer t) i []
 
 unfoldable pub rowOf : Trial → ℕ → List Float
 unfolding byOffer entryOf ofInt

@@ -1,4 +1,4 @@
-// A trial of offers in shops: its record, its checks, the size of its table.
+// A trial of offers in shops: its record, its checks, the size of its table, the offers that take part.
 // The definitions are in specs/, their laws in proofs/.
 mod checks; // the conditions of refusals
 mod designs; // how a trial was laid out: all that goes by its cases

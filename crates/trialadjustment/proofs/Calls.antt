@@ -1,6 +1,6 @@
 -- The call for the figures of a trial: its table is accepted, so its figures can be worked out over the offers that are not set aside.
 --   figurable                       what working them out asks for
---   figures-done, work-done         what the code makes of the table in its buffer is the answer for the trial
+--   figures-done                    what the code makes of the table in its buffer is the answer for the trial
 use Prim.Native.Nat.{ℕ, _*_}
 use mathlib.Core.Path.{_≡_, ap, ap₂, _∙_}
 use mathlib.Core.List.{List}

@@ -30,12 +30,12 @@ use Rattle.adjustment.proofs.Figures.{figure-law, figure-most, figure-aside, st
 use Rattle.adjustment.proofs.Passing.{kMaxPass-agrees}
 use Rattle.trial.specs.Aside.{liveOffers, liveMask}
 use Rattle.trial.specs.Designs.{rowCount, entryOf, untested}
-use Rattle.trial.specs.Exchange.{rowTotal, byOffer, rowOf, trialRows}
+use Rattle.trial.specs.Exchange.{rowTotal, byOffer, figuresAt, rowOf, trialRows}
 use Rattle.trial.specs.Refusals.{trialRefusal}
 use Rattle.trial.specs.declared.Shape.{Shape}
 use Rattle.trial.specs.declared.Trial.{Trial}
 use Rattle.trial.proofs.Accepted.{Accepted, accepted}
-use Rattle.trial.proofs.Aside.{live-at, live-columns, live-bit}
+use Rattle.trial.proofs.Aside.{live-columns, live-bit}
 use Rattle.trial.proofs.Tables.{trialRows-length, trialRows-sound, rowTotal-some}
 use Rattle.trialrun.specs.TrialRuns.{trialRun}
 use Rattle.trialadjustment.specs.TrialFigures.{rejectedOf, trialFigures}
@@ -61,8 +61,8 @@ module _ (t : Trial) where
   pub trial-most : (i : ℕ) → i < t .shape .offers → getD (trialFigures t) i 0 ≤ rowTotal t
   trial-most i h = omega (arith, figure-at i h, figure-most X (rowTotal t) (t .shape .offers) (t .shape .k) 0 (liveMask t) i)
 
-  pub trial-aside : (i : ℕ) → i < t .shape .offers → T (untested (t .shape .design) (getD (byOffer t) i [])) → getD (trialFigures t) i 0 ≡ rowTotal t
-  trial-aside i h q = figure-at i h ∙ figure-aside X (rowTotal t) (t .shape .offers) (t .shape .k) 0 (liveMask t) i h (live-bit t i h ∙ live-at t i h ∙ ap not (T-true (untested (t .shape .design) (getD (byOffer t) i [])) q))
+  pub trial-aside : (i : ℕ) → i < t .shape .offers → T (untested (t .shape .design) (figuresAt t i)) → getD (trialFigures t) i 0 ≡ rowTotal t
+  trial-aside i h q = figure-at i h ∙ figure-aside X (rowTotal t) (t .shape .offers) (t .shape .k) 0 (liveMask t) i h (live-bit t i h ∙ ap not (T-true (untested (t .shape .design) (figuresAt t i)) q))
 
   pub trial-few : size (liveOffers t) < t .shape .k → trialFigures t ≡ replicate (t .shape .offers) (rowTotal t)
   unfolding trialFigures

@@ -18,10 +18,9 @@ use lib.Ieee.{Float}
 use Rattle.order.specs.Lists.{rowsOf}
 use Rattle.limits.specs.Limits.{trialRowsMost}
 use Rattle.refusals.specs.Buffers.{written}
-use Rattle.refusals.specs.Limits.{allowance}
 use Rattle.columns.specs.Columns.{size, within, fullMask}
 use Rattle.masks.specs.Internal.{CheckedTable}
-use Rattle.runs.specs.Stepdown.{firstState, fullRun}
+use Rattle.runs.specs.Stepdown.{fullRun}
 use Rattle.runs.specs.Tables.{tableStart, tableRun}
 use Rattle.stepdown.proofs.Accepted as tables
 use Rattle.balance.specs.Balance.{balancedRows, balancedTable}
@@ -40,7 +39,7 @@ use Rattle.trial.proofs.Aside.{live-length}
 use Rattle.trial.proofs.Tables.{trialRows-length, trialRows-sound, tableOf-length, tableOf-rows, rowTotal-some}
 use Rattle.trialrun.specs.TrialRuns.{trialStart, trialRun, runSize, runTable}
 use Rattle.trialrun.proofs.Tabled.{free, rows-are, columns-are, same-total, good, filled, front, asked}
-use Rattle.trialrun.proofs.Runs.{table-accepted}
+use Rattle.trialrun.proofs.Runs.{table-accepted, start-all}
 use Rattle.trialrun.proofs.Without.{Without, run-without}
 use Rattle.trialbalance.specs.TrialBalance.{trialBalanced, trialBalancedRun, runBalanced}
 use Rattle.trialbalance.proofs.Parts.{balanced-part}
@@ -109,9 +108,7 @@ module _ (t : Trial) where
 
   pub nothing-aside : liveMask t ≡ fullMask (t .shape .offers) → trialBalancedRun t ≡ balancedRun (tableOf t) (rowTotal t) (t .shape .offers) (t .shape .k) (t .level .a) (t .level .b) 0
   unfolding trialBalanced balancedRun tableRun
-  nothing-aside h =
-      balancedRun-table
-      ∙ ap (λ (live : ℕ). fullRun (rowsOf (rowTotal t) (t .shape .offers) (trialBalanced t)) (firstState (rowTotal t) (t .shape .offers) (t .shape .k) (allowance (rowTotal t) (t .level .a) (t .level .b)) 0 live)) h
+  nothing-aside h = balancedRun-table ∙ ap (fullRun (rowsOf (rowTotal t) (t .shape .offers) (trialBalanced t))) (start-all t h)
 
   module _ (ok : trialRefusal t ≡ 0) where
     acc : Accepted t

@@ -20,7 +20,7 @@ use Rattle.trial.specs.Exchange.{rowTotal, tableOf}
 use Rattle.trial.specs.Record.{Contents, Same}
 use Rattle.trial.specs.declared.Trial.{Trial}
 use Rattle.trial.proofs.Unused.{offers-same, table-same, rows-same, live-same}
-use Rattle.trialrun.proofs.Unused.{asked-same}
+use Rattle.trialrun.proofs.Unused.{asked-same, over-same}
 use Rattle.trialbalance.specs.TrialBalance.{trialBalanced, trialBalancedRun, trialBalancedAnswer, runBalanced}
 use Rattle.trialbalance.proofs.Calls.{balancedRun-table}
 
@@ -30,12 +30,7 @@ module _ (t u : Trial) (s : Same t u) where
   balanced-same = ap₂ (λ (x : List Float) (m : ℕ). balancedTable x m (t .shape .offers)) (table-same t u s) (rows-same t u s) ∙ ap (balancedTable (tableOf u) (rowTotal u)) (offers-same t u s)
 
   pub run-same : trialBalancedRun t ≡ trialBalancedRun u
-  run-same =
-      balancedRun-table t
-      ∙ ap₂ (λ (x : List Float) (m : ℕ). fullRun (rowsOf m (t .shape .offers) x) (firstState m (t .shape .offers) (t .shape .k) (allowance m (t .level .a) (t .level .b)) 0 (liveMask t))) balanced-same (rows-same t u s)
-      ∙ ap₂ (λ (c : Contents) (live : ℕ). let h = c .setting in
-      fullRun (rowsOf (rowTotal u) (h .shape .offers) (trialBalanced u)) (firstState (rowTotal u) (h .shape .offers) (h .shape .k) (allowance (rowTotal u) (h .level .a) (h .level .b)) 0 live)) s (live-same t u s)
-      ∙ sym (balancedRun-table u)
+  run-same = balancedRun-table t ∙ over-same t u s balanced-same ∙ sym (balancedRun-table u)
 
   pub answer-same : (places work : ℕ) → trialBalancedAnswer t places work ≡ trialBalancedAnswer u places work
   unfolding trialBalancedAnswer

@@ -23,9 +23,9 @@ use Rattle.runs.specs.declared.Verdict.the-variants.{Kept, Aside}
 use Rattle.runs.proofs.Told.{verdict-aside, count-live, count-aside, aside-exactly, few-records, few-kept}
 use Rattle.trial.specs.Aside.{liveOffers, liveMask}
 use Rattle.trial.specs.Designs.{untested}
-use Rattle.trial.specs.Exchange.{byOffer, rowTotal}
+use Rattle.trial.specs.Exchange.{figuresAt, rowTotal}
 use Rattle.trial.specs.declared.Trial.{Trial}
-use Rattle.trial.proofs.Aside.{live-at, live-bit, live-columns}
+use Rattle.trial.proofs.Aside.{live-bit, live-columns}
 use Rattle.trialrun.specs.TrialRuns.{trialStart}
 
 not-twice : (b : Bool) → not (not b) ≡ b
@@ -35,17 +35,14 @@ not-twice false = refl
 module _ (t : Trial) (X : List (List Float)) where
   module _ (i : ℕ) (h : i < t .shape .offers) where
     abbrev aside : Bool
-    aside = untested (t .shape .design) (getD (byOffer t) i [])
+    aside = untested (t .shape .design) (figuresAt t i)
 
-    bit-is : inSet (liveMask t) i ≡ not (untested (t .shape .design) (getD (byOffer t) i []))
-    bit-is = live-bit t i h ∙ live-at t i h
+    pub aside-told : (d : Verdict) → isAside (getD (fullRun X (trialStart t) .verdicts) i d) ≡ untested (t .shape .design) (figuresAt t i)
+    aside-told d = aside-exactly X (trialStart t) i h d ∙ ap not (live-bit t i h) ∙ not-twice aside
 
-    pub aside-told : (d : Verdict) → isAside (getD (fullRun X (trialStart t) .verdicts) i d) ≡ untested (t .shape .design) (getD (byOffer t) i [])
-    aside-told d = aside-exactly X (trialStart t) i h d ∙ ap not bit-is ∙ not-twice aside
-
-    module _ (q : T (untested (t .shape .design) (getD (byOffer t) i []))) where
+    module _ (q : T (untested (t .shape .design) (figuresAt t i))) where
       bit-off : inSet (liveMask t) i ≡ false
-      bit-off = bit-is ∙ ap not (T-true aside q)
+      bit-off = live-bit t i h ∙ ap not (T-true aside q)
 
       pub aside-verdict : (d : Verdict) → getD (fullRun X (trialStart t) .verdicts) i d ≡ Aside
       aside-verdict d = verdict-aside X (trialStart t) i h d bit-off
@@ -53,9 +50,9 @@ module _ (t : Trial) (X : List (List Float)) where
       pub aside-count : getD (fullRun X (trialStart t) .counts) i 0 ≡ 0
       aside-count = count-aside X (trialStart t) i h bit-off
 
-    module _ (q : untested (t .shape .design) (getD (byOffer t) i []) ≡ false) where
+    module _ (q : untested (t .shape .design) (figuresAt t i) ≡ false) where
       bit-on : inSet (liveMask t) i ≡ true
-      bit-on = bit-is ∙ ap not q
+      bit-on = live-bit t i h ∙ ap not q
 
       pub tested-count : getD (fullRun X (trialStart t) .counts) i 0 ≡ atLeast X (getD (getD X 0 []) i nan) i
       tested-count = count-live X (trialStart t) i h bit-on

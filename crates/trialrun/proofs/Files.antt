@@ -11,8 +11,8 @@ use Rattle.refusals.specs.Answers.{answer}
 use Rattle.refusals.proofs.Answers.{accepted, refused}
 use Rattle.runs.specs.FullRuns.{acceptedRun, refusedRun}
 use Rattle.runs.specs.declared.FullRun.{FullRun}
-use Rattle.trial.specs.Aside.{liveMask}
 use Rattle.trial.specs.Exchange.{rowTotal}
+use Rattle.trial.specs.Lent.{fullSize}
 use Rattle.trial.specs.Refusals.{trialRefusal}
 use Rattle.trial.specs.Record.{blank}
 use Rattle.trial.specs.declared.Trial.{Trial}
@@ -30,7 +30,7 @@ pub buffers-hold : {A : Type 0} (done : A) (refusing : ℕ → A) (t : Trial) �
 unfolding rowTotal
 buffers-hold done refusing t e =
     let a = known t 0 (sym e) refl in
-    sym (run-free t (record { refusal = 0; rows = rowTotal t; columns = t .shape .offers; live = liveMask t }) (size-is t 0 (sym e) refl) done refusing trialTableMost trialRowsMost refl (total-most t a) (a .laid .rows-most))
+    sym (run-free t (fullSize t) (size-is t 0 (sym e) refl) done refusing trialTableMost trialRowsMost refl (total-most t a) (a .laid .rows-most))
 
 module _ (bytes : List ℕ) (r : Reading) (e : r ≡ readingOf bytes) where
   abbrev taken : Reading

@@ -3,7 +3,7 @@
 --   level-known, startable         what the engine asks for: a level, and a table in the trial's buffer
 --   told, left                     what its full run tells and leaves, of the trial's table or of one in its place
 --   trialRun-table                 the full run of a trial, by its table
---   nothing-aside                  where no offer is set aside it is the full run of the table
+--   start-all, nothing-aside       where no offer is set aside it is the full run of the table
 --   run-sizes                      M and e of the full run: the rows of the trial's table, and floor(M × a/b)
 use Prim.Native.Nat.{ℕ, _*_, _^_, _≤_, _<_}
 use native.Mathlib.Omega.{arith}
@@ -29,7 +29,7 @@ use Rattle.columns.specs.Columns.{fullMask}
 use Rattle.masks.specs.Internal.{CheckedTable}
 use Rattle.runs.specs.Stepdown.{firstState, fullRun}
 use Rattle.runs.specs.FullRuns.{acceptedRun, refusedRun}
-use Rattle.runs.specs.Tables.{tableRun}
+use Rattle.runs.specs.Tables.{tableStart, tableRun}
 use Rattle.runs.specs.declared.FullRun.{FullRun}
 use Rattle.stepdown.specs.Refusals.{badShape, badValue, tableChecks, tableRefusal}
 use Rattle.stepdown.proofs.Accepted as tables
@@ -107,11 +107,13 @@ pub trialRun-table : (t : Trial) → trialRun t ≡ fullRun (rowsOf (rowTotal t)
 unfolding trialRun
 trialRun-table t = ap (λ (X : List (List Float)). fullRun X (trialStart t)) (sym (tableOf-rows t))
 
+-- where no offer is set aside the state before step 1 is that of the table
+pub start-all : (t : Trial) → liveMask t ≡ fullMask (t .shape .offers) → trialStart t ≡ tableStart (rowTotal t) (t .shape .offers) (t .shape .k) (t .level .a) (t .level .b) 0
+start-all t = ap (firstState (rowTotal t) (t .shape .offers) (t .shape .k) (allowance (rowTotal t) (t .level .a) (t .level .b)) 0)
+
 pub nothing-aside : (t : Trial) → liveMask t ≡ fullMask (t .shape .offers) → trialRun t ≡ tableRun (tableOf t) (rowTotal t) (t .shape .offers) (t .shape .k) (t .level .a) (t .level .b) 0
 unfolding tableRun
-nothing-aside t h =
-    trialRun-table t
-    ∙ ap (λ (live : ℕ). fullRun (rowsOf (rowTotal t) (t .shape .offers) (tableOf t)) (firstState (rowTotal t) (t .shape .offers) (t .shape .k) (allowance (rowTotal t) (t .level .a) (t .level .b)) 0 live)) h
+nothing-aside t h = trialRun-table t ∙ ap (fullRun (rowsOf (rowTotal t) (t .shape .offers) (tableOf t))) (start-all t h)
 
 -- ---- the sizes that a full run tells
 

@@ -22,14 +22,14 @@ use Rattle.refusals.proofs.Answers.{none-holds, both-pass, answer-append, answe
 use Rattle.refusals.proofs.Buffers.{lent-short, lent-enough}
 use Rattle.trial.specs.Aside.{liveMask}
 use Rattle.trial.specs.Exchange.{rowTotal, tableOf}
-use Rattle.trial.specs.Lent.{sizeOf, tableCallChecks, tableBuffer}
+use Rattle.trial.specs.Lent.{fullSize, refusedSize, sizeOf, tableCallChecks, tableBuffer}
 use Rattle.trial.specs.Refusals.{trialChecks, trialRefusal}
 use Rattle.trial.specs.declared.Trial.{Trial}
 use Rattle.trial.specs.declared.TableSize.{TableSize}
 use Rattle.trial.proofs.Accepted.{Accepted}
 use Rattle.trial.proofs.Tables.{tableOf-length}
 use Rattle.trial.proofs.Calls.{turned-away, passed-on, known, total-most, size-refused}
-use Rattle.trialrun.specs.TrialRuns.{runCallChecks, refusedSize, runSize, runTable, runWork}
+use Rattle.trialrun.specs.TrialRuns.{runCallChecks, runSize, runTable, runWork}
 use Rattle.trial.proofs.Calls as trials
 
 -- ---- what a call gives, by the size of the trial's table
@@ -72,7 +72,7 @@ module _ (t : Trial) (s : TableSize) (q : s ≡ sizeOf t) where
     Tabled r w = (r ≡ runSize t (length table) work) × (w ≡ runTable t table work)
 
     abbrev size : TableSize
-    size = record { refusal = 0; rows = rowTotal t; columns = t .shape .offers; live = liveMask t }
+    size = fullSize t
 
     pub tabled-turned : (s .refusal ≡ 0 → ⊥) → Tabled s table
     unfolding runSize runTable
@@ -111,7 +111,7 @@ module _ (t : Trial) (table work : List Float) (s : TableSize) (q : s ≡ runSiz
 
   number-is : s .refusal ≡ firstRefusal checks
   unfolding runSize firstRefusal
-  number-is = ap (λ (x : TableSize). x .refusal) q ∙ answer-map (λ (x : TableSize). x .refusal) checks (record { refusal = 0; rows = rowTotal t; columns = t .shape .offers; live = liveMask t }) refusedSize
+  number-is = ap (λ (x : TableSize). x .refusal) q ∙ answer-map (λ (x : TableSize). x .refusal) checks (fullSize t) refusedSize
 
   -- whatever an accepted call puts into the table buffer
   module _ {A : Type 0} (done : A) (refusing : ℕ → A) (new : List Float) where
@@ -132,9 +132,9 @@ module _ (t : Trial) (table work : List Float) (s : TableSize) (q : s ≡ runSiz
     pub free : {A : Type 0} (done : A) (refusing : ℕ → A) → done ≡ answer checks done refusing
     free done refusing = accepted done refusing checks (s .refusal) number-is z
 
-    full : s ≡ record { refusal = 0; rows = rowTotal t; columns = t .shape .offers; live = liveMask t }
+    full : s ≡ fullSize t
     unfolding runSize
-    full = q ∙ sym (free (record { refusal = 0; rows = rowTotal t; columns = t .shape .offers; live = liveMask t }) refusedSize)
+    full = q ∙ sym (free (fullSize t) refusedSize)
 
     pub rows-are : s .rows ≡ rowTotal t
     rows-are = ap (λ (x : TableSize). x .rows) full

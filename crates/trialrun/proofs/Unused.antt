@@ -1,5 +1,5 @@
 -- Places that the counts of a record don't use change nothing: two records of the same trial have the same
---   run-same                         full run
+--   over-same, run-same              full run over the rows of a table that both have, and that of their own
 --   asked-same                       conditions of a call with these buffers
 --   answer-same                      answer of a call for the full run
 --   runTable-same, runWork-same      buffers after it
@@ -20,17 +20,19 @@ use Rattle.trial.specs.Refusals.{trialChecks}
 use Rattle.trial.specs.Record.{Contents, Same}
 use Rattle.trial.specs.declared.Trial.{Trial}
 use Rattle.trial.proofs.Unused.{offers-same, checks-same, table-same, rows-same, live-same}
-use Rattle.trialrun.specs.TrialRuns.{trialRun, runCallChecks, trialAnswer, runTable, runWork}
+use Rattle.trialrun.specs.TrialRuns.{trialStart, trialRun, runCallChecks, trialAnswer, runTable, runWork}
 use Rattle.trialrun.proofs.Runs.{trialRun-table}
 
 module _ (t u : Trial) (s : Same t u) where
-  pub run-same : trialRun t ≡ trialRun u
-  run-same =
-      trialRun-table t
-      ∙ ap₂ (λ (x : List Float) (m : ℕ). fullRun (rowsOf m (t .shape .offers) x) (firstState m (t .shape .offers) (t .shape .k) (allowance m (t .level .a) (t .level .b)) 0 (liveMask t))) (table-same t u s) (rows-same t u s)
+  -- over the rows of a table that both have
+  pub over-same : {x y : List Float} → x ≡ y → fullRun (rowsOf (rowTotal t) (t .shape .offers) x) (trialStart t) ≡ fullRun (rowsOf (rowTotal u) (u .shape .offers) y) (trialStart u)
+  over-same {x} {y} q =
+      ap₂ (λ (z : List Float) (m : ℕ). fullRun (rowsOf m (t .shape .offers) z) (firstState m (t .shape .offers) (t .shape .k) (allowance m (t .level .a) (t .level .b)) 0 (liveMask t))) q (rows-same t u s)
       ∙ ap₂ (λ (c : Contents) (live : ℕ). let h = c .setting in
-      fullRun (rowsOf (rowTotal u) (h .shape .offers) (tableOf u)) (firstState (rowTotal u) (h .shape .offers) (h .shape .k) (allowance (rowTotal u) (h .level .a) (h .level .b)) 0 live)) s (live-same t u s)
-      ∙ sym (trialRun-table u)
+      fullRun (rowsOf (rowTotal u) (h .shape .offers) y) (firstState (rowTotal u) (h .shape .offers) (h .shape .k) (allowance (rowTotal u) (h .level .a) (h .level .b)) 0 live)) s (live-same t u s)
+
+  pub run-same : trialRun t ≡ trialRun u
+  run-same = trialRun-table t ∙ over-same (table-same t u s) ∙ sym (trialRun-table u)
 
   pub asked-same : (places work : ℕ) → runCallChecks t places work ≡ runCallChecks u places work
   asked-same places work =

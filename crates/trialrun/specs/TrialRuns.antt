@@ -2,7 +2,6 @@
 --   trialStart t        the state before step 1: at the trial's level and k, row 0 observed, and the offers live that are not set aside (document 02, §4)
 --   trialRun t          the full run of a trial: that of its table from there
 --   runCallChecks, runCallRefusal    of a full run, with a table buffer and a work buffer of so many places: the record's refusals, then 12 for either
---   refusedSize n                    what is told in place of a size: the number of a refusal, and zeros
 --   runSize t places work            the size of the table that is made for it, with the live offers
 --   runTable, runWork                the table buffer and the work buffer after it; both unchanged where it is refused
 --   trialAnswer t places work        what the full run answers
@@ -19,6 +18,7 @@ use Rattle.runs.specs.declared.State.{State}
 use Rattle.runs.specs.declared.FullRun.{FullRun}
 use Rattle.trial.specs.Aside.{liveMask}
 use Rattle.trial.specs.Exchange.{rowTotal, trialRows, tableOf}
+use Rattle.trial.specs.Lent.{fullSize, refusedSize}
 use Rattle.trial.specs.Refusals.{trialChecks}
 use Rattle.trial.specs.declared.TableSize.{TableSize}
 use Rattle.trial.specs.declared.Trial.{Trial}
@@ -37,12 +37,9 @@ unfoldable pub runCallRefusal : Trial → ℕ → ℕ → ℕ
 unfolding firstRefusal
 runCallRefusal t places work = firstRefusal (runCallChecks t places work)
 
-abbrev pub refusedSize : ℕ → TableSize
-refusedSize n = record { refusal = n; rows = 0; columns = 0; live = 0 }
-
 unfoldable pub runSize : Trial → ℕ → ℕ → TableSize
 unfolding answer trialChecks rowTotal liveMask
-runSize t places work = answer (runCallChecks t places work) (record { refusal = 0; rows = rowTotal t; columns = t .shape .offers; live = liveMask t }) refusedSize
+runSize t places work = answer (runCallChecks t places work) (fullSize t) refusedSize
 
 unfoldable pub runTable : Trial → List Float → ℕ → List Float
 unfolding tableOf

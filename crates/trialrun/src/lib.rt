@@ -6,7 +6,8 @@ use trial::TableSize;
 use trial::Trial;
 ghost use mathlib.Core.Path.{_≡_};
 ghost use lib.ListN.{length};
-ghost use Rattle.trialrun.specs.TrialRuns.{refusedSize, runSize, runTable, runWork, trialAnswer};
+ghost use Rattle.trial.specs.Lent.{refusedSize};
+ghost use Rattle.trialrun.specs.TrialRuns.{runSize, runTable, runWork, trialAnswer};
 ghost use Rattle.trialrun.specs.FileRuns.{fileRun};
 
 // What is told in place of a size.

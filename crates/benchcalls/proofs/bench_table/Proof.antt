@@ -12,7 +12,7 @@ returns c =
     let p = i .before .before .before .before .full-run .ensures in
     let z = i .if1 .taken in (
       run-number _ _ _ _ _ _ _ _ _ (p .0),
-      (p .1, (run-given _ _ _ _ _ _ _ _ _ (p .0) stepsIn _ z, (c .before .before .before .criticals-of .ensures ∙ run-given _ _ _ _ _ _ _ _ _ (p .0) criticalsIn _ z, (run-given _ _ _ _ _ _ _ _ _ (p .0) countsIn _ z, c .steps-of .ensures ∙ run-given _ _ _ _ _ _ _ _ _ (p .0) verdictsOf _ z)))),
+      (p .1, (run-given _ _ _ _ _ _ _ _ _ (p .0) stepsIn _ z, (c .before .before .before .criticals-of .ensures ∙ run-given _ _ _ _ _ _ _ _ _ (p .0) criticalsIn _ z, (run-given _ _ _ _ _ _ _ _ _ (p .0) countsIn _ z, c .bytes-of .ensures ∙ run-given _ _ _ _ _ _ _ _ _ (p .0) verdictsOf _ z)))),
     )
 
 returns-2 : tie.Need-returns-2

@@ -1,6 +1,6 @@
 -- `finish` meets its contract. The invariant: the first j columns have their verdicts and counts.
 use Rattle.engine.specs.Internal.{Traced}
-use Rattle.engine.proofs.FullRuns.{count, partialRun, partial-start, partial-turn, partial-end}
+use Rattle.engine.proofs.FullRuns.{observedCount, partialRun, partial-start, partial-turn, partial-end}
 use Rattle.order.specs.Lists.{tabulate, padded}
 use Prim.Native.Nat.{_≤_, _-_}
 use native.Mathlib.Omega.{arith}
@@ -11,7 +11,7 @@ use Rattle.engine.proofs.tracing.finish.Tie as tie
 
 abbrev Inv-loop : tie.InvT-loop
 Inv-loop t table rows columns k e observed live f₀ counts j₀ f j =
-    (j ≤ columns) × (columns ≤ 32) × Traced t × (f ≡ partialRun t table rows columns e observed live j) × (counts ≡ padded 32 0 (tabulate columns (count t table rows columns e observed live)))
+    (j ≤ columns) × (columns ≤ 32) × Traced t × (f ≡ partialRun t table rows columns e observed live j) × (counts ≡ padded 32 0 (tabulate columns (observedCount table rows columns observed)))
 
 abbrev μ-loop : tie.MeasureT-loop
 μ-loop t table rows columns k e observed live f₀ counts j₀ f j = columns - j
