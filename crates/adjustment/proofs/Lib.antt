@@ -1,5 +1,6 @@
 pub mod Examples
 pub mod Figures
+pub mod Without
 pub mod Needed
 pub mod TopColumn
 pub mod PassFigures

@@ -9,7 +9,7 @@ use mathlib.Core.List.{List, [], _∷_, map}
 use mathlib.Core.Logic.{_↔_, _⊎_}
 use lib.ListN.{length, getD, replicate, take}
 use lib.Dec.{T, ltb}
-use lib.IntN.{ℤ, pos}
+use lib.IntN.{pos}
 use lib.Ieee.{Float, nan, binary64, ofInt, toSigned}
 use Rattle.limits.specs.Limits.{inputRoom, longestReport, longestSheet}
 use Rattle.order.specs.Order.{plusZero, finite, smaller, atMost, equal}
@@ -28,11 +28,13 @@ use Rattle.columns.specs.Columns.{size, within, everyColumn}
 use Rattle.method.specs.Method.{atLeast}
 use Rattle.runs.specs.Stepdown.{rejectedSet, leftOver, newlyRejected, fullRun}
 use Rattle.runs.specs.FullRuns.{acceptedRun, refusedRun, verdictsIn, isRejected, isAside}
+use Rattle.runs.specs.declared.Verdict.{Verdict}
 use Rattle.runs.specs.declared.Verdict.the-variants.{Kept}
-use Rattle.runs.specs.Tables.{tableStart, tableRun}
+use Rattle.runs.specs.Tables.{tableRun}
 use Rattle.runs.specs.Examples.{examples}
 use Rattle.runs.proofs.Examples.{all-examples}
 use Rattle.runs.proofs.Told as told
+use Rattle.verdicts.specs.Verdicts.{verdictByte, rejectedCount}
 use Rattle.verdicts.proofs.Bytes.{Tells, run-tells}
 use Rattle.stepdown.specs.Runs.{begun, stateOf, nextRun}
 use Rattle.stepdown.specs.Refusals.{tableRefusal, tableRunChecks, tableRunRefusal, stepRefusal}
@@ -59,7 +61,7 @@ use Rattle.tablebalance.proofs.Examples as balance-examples
 use Rattle.trial.specs.Designs.{entryOf, untested}
 use Rattle.trial.specs.Record.{ArrayLengths, trimmed, Same, Keeps}
 use Rattle.trial.specs.Aside.{liveOffers}
-use Rattle.trial.specs.Exchange.{byOffer, rowOf, rowTotal, trialRows, tableOf}
+use Rattle.trial.specs.Exchange.{byOffer, figuresAt, rowOf, rowTotal, trialRows, tableOf}
 use Rattle.trial.specs.Refusals.{trialRefusal}
 use Rattle.trial.specs.declared.Trial.{Trial}
 use Rattle.trial.specs.declared.Design.the-variants.{Paired}
@@ -75,7 +77,12 @@ use Rattle.trialadjustment.specs.TrialFigures.{rejectedOf, trialFigures, trialF
 use Rattle.trialadjustment.proofs.Trials as trialfigures
 use Rattle.trialrun.proofs.Aside as asides
 use Rattle.trialrun.proofs.Without as without
-use Rattle.trialrun.proofs.Without.{Without}
+use Rattle.trialrun.proofs.Without.{Without, remainingTable}
+use Rattle.trialrun.specs.FileRuns.{fileRun}
+use Rattle.trialbalance.specs.FileBalance.{fileBalancedRun}
+use Rattle.host.specs.Calls.{fileOffers, trialVerdictsRefusal, trialVerdictsBuffer}
+use Rattle.host.specs.BalancedCalls.{trialBalancedVerdictsBuffer}
+use Rattle.host.proofs.FileBytes as bytes
 use Rattle.trialbalance.proofs.Calls as balancing
 use Rattle.control.proofs.Trials as runs-of-trials
 use Rattle.control.proofs.Answered.{tables-answered, trials-answered, balanced-tables-answered, balanced-trials-answered}
@@ -90,7 +97,7 @@ use Rattle.sheet.proofs.Inputs as sheet-inputs
 use Rattle.streams.specs.Programs.{Gives}
 use Rattle.stepdown.proofs.StepByStep as steps
 use Rattle.trialrun.proofs.Runs as trialruns
-use Rattle.control.specs.Statements.{runsThatReject, SameOn, figuresAt, ListedOn}
+use Rattle.control.specs.Statements.{runsThatReject, SameOn, ListedOn}
 use Rattle.rendering.proofs.Rendered as rendered
 use Rattle.rendering.proofs.AsideLines as lines
 use Rattle.rendering.proofs.Inputs as inputs
@@ -149,6 +156,10 @@ module _ (t : Trial) where
   pub trial-run : (places work : ℕ) → runCallRefusal t places work ≡ 0 → trialAnswer t places work ≡ acceptedRun (trialRun t)
   unfolding trialAnswer runCallRefusal
   trial-run places work h = answered (runCallChecks t places work) _ refusedRun .gives h
+
+  -- it is the run of the table that stands in the buffer
+  pub trial-run-table : trialRun t ≡ fullRun (rowsOf (rowTotal t) (t .shape .offers) (tableOf t)) (trialStart t)
+  trial-run-table = trialruns.trialRun-table t
 
   -- a trial written as a file reads back as the same trial
   pub write-read : ArrayLengths t → trialRefusal t ≡ 0 → (buf : List ℕ) → fileLength t ≤ length buf
@@ -337,6 +348,9 @@ module _ (t : Trial) where
   unfolding trialBalancedAnswer trialBalancedRun runCallRefusal
   trial-balanced-run places work h = answered (runCallChecks t places work) _ refusedRun .gives h
 
+  pub trial-balanced-table : trialBalancedRun t ≡ fullRun (rowsOf (rowTotal t) (t .shape .offers) (trialBalanced t)) (trialStart t)
+  trial-balanced-table = balancing.balancedRun-table t
+
   pub trial-balanced-buffers : (table work : List Float) → runCallRefusal t (length table) (length work) ≡ 0
       → (runBalanced t table (length work) ≡ written (balancedTable (tableOf t) (rowTotal t) (t .shape .offers)) table) × (runWork t (length table) work ≡ cleared (rowTotal t) work)
   unfolding runBalanced runWork trialBalanced runCallRefusal
@@ -384,16 +398,16 @@ balanced-examples = (rank-examples.all-examples, balance-examples.all-examples)
 
 -- ==== Offers that never sold (document 02, §4) ====
 
--- in a paired trial an offer has not been tested where its difference is 0 in every pair
-pub not-tested : (pairs : ℕ) (xs : List ℤ) → T (untested (Paired pairs) xs) ↔ ((j : ℕ) → j < length xs → getD xs j (pos 0) ≡ pos 0)
+-- in a paired trial an offer (from 0) has not been tested exactly where its difference is 0 in every pair, as the record holds them, offer by offer
+pub not-tested : (t : Trial) (pairs : ℕ) → t .shape .design ≡ Paired pairs → (i : ℕ) → i < t .shape .offers
+    → T (untested (t .shape .design) (figuresAt t i)) ↔ ((j : ℕ) → j < pairs → getD (t .figures) (i * pairs + j) (pos 0) ≡ pos 0)
 not-tested = every-difference
 
 module _ (t : Trial) (i : ℕ) (h : i < t .shape .offers) where
   -- an offer is set aside exactly where it has not been tested, by the trial's own figures, in the balanced run too
-  pub set-aside : (isAside (getD (trialRun t .verdicts) i (Kept plusZero)) ≡ untested (t .shape .design) (figuresAt t i))
-      × (isAside (getD (trialBalancedRun t .verdicts) i (Kept plusZero)) ≡ untested (t .shape .design) (figuresAt t i))
+  pub set-aside : (d : Verdict) → (isAside (getD (trialRun t .verdicts) i d) ≡ untested (t .shape .design) (figuresAt t i)) × (isAside (getD (trialBalancedRun t .verdicts) i d) ≡ untested (t .shape .design) (figuresAt t i))
   unfolding trialRun trialBalancedRun
-  set-aside = (asides.aside-told t (trialRows t) i h (Kept plusZero), asides.aside-told t (balancedRows (trialRows t)) i h (Kept plusZero))
+  set-aside d = (asides.aside-told t (trialRows t) i h d, asides.aside-told t (balancedRows (trialRows t)) i h d)
 
   -- its line reads code, `aside`, 0, 0 in both reports, and its figure is M
   module _ (q : T (untested (t .shape .design) (figuresAt t i))) where
@@ -405,41 +419,60 @@ module _ (t : Trial) (i : ℕ) (h : i < t .shape .offers) where
     pub aside-figure : getD (trialFigures t) i 0 ≡ rowTotal t
     aside-figure = trialfigures.trial-aside t i h q
 
-  -- its byte for C is 255, and no other's is; a rejected offer's is the step, from 1 to 32
-  pub bytes-tell : Tells (getD (trialRun t .verdicts) i (Kept plusZero)) × Tells (getD (trialBalancedRun t .verdicts) i (Kept plusZero))
+  -- the byte that tells its verdict is 255, and no other offer's is; a rejected offer's is from 1 to 32
+  pub bytes-tell : (d : Verdict) → Tells (getD (trialRun t .verdicts) i d) × Tells (getD (trialBalancedRun t .verdicts) i d)
   unfolding trialRun trialBalancedRun
-  bytes-tell = (run-tells (trialRows t) (trialStart t) refl i h (Kept plusZero), run-tells (balancedRows (trialRows t)) (trialStart t) refl i h (Kept plusZero))
+  bytes-tell d = (run-tells (trialRows t) (trialStart t) refl i h d, run-tells (balancedRows (trialRows t)) (trialStart t) refl i h d)
 
   -- the count of an offer that remains is that of document 01
   pub tested-count : untested (t .shape .design) (figuresAt t i) ≡ false → getD (trialRun t .counts) i 0 ≡ atLeast (trialRows t) (getD (getD (trialRows t) 0 []) i nan) i
   unfolding trialRun
   tested-count = asides.tested-count t (trialRows t) i h
 
--- demand 2 is read over the offers that remain: the run of an accepted trial is that of its table without the columns of the others. Its records are the
--- same, and of the offers that remain, in their order, verdicts and counts; the balanced run is that of the smaller table, balanced
+-- the buffer of an accepted call from C holds these bytes
+pub c-bytes : (file buf : List ℕ) → trialVerdictsRefusal file (length buf) ≡ 0 → (i : ℕ) → i < fileOffers file → (d : Verdict) → let t = trialOf (wordsOf file) in
+    (getD (trialVerdictsBuffer file buf) i 0 ≡ verdictByte (getD (trialRun t .verdicts) i d)) × (getD (trialBalancedVerdictsBuffer file buf) i 0 ≡ verdictByte (getD (trialBalancedRun t .verdicts) i d))
+unfolding trialVerdictsRefusal trialVerdictsBuffer trialBalancedVerdictsBuffer fileRun fileBalancedRun trialRun trialBalancedRun
+c-bytes file buf ok i l d = (bytes.byte-told trialRows file buf ok i l d, bytes.byte-told (λ t. balancedRows (trialRows t)) file buf ok i l d)
+
+-- demand 2 is read over the offers that remain: the run of an accepted trial is that of the table of these offers alone, with all its columns. Its records are
+-- the same, and of the offers that remain, in their order, verdicts and counts; so are the balanced run and the figures
 module _ (t : Trial) (ok : trialRefusal t ≡ 0) where
-  pub as-without : Without t (trialRun t) (fullRun (map (within (liveOffers t)) (trialRows t)) (tableStart (rowTotal t) (size (liveOffers t)) (t .shape .k) (t .level .a) (t .level .b) 0))
+  pub as-without : Without t (trialRun t) (tableRun (remainingTable t) (rowTotal t) (size (liveOffers t)) (t .shape .k) (t .level .a) (t .level .b) 0)
   as-without = without.trial-without t ok
 
-  pub balanced-as-without : Without t (trialBalancedRun t) (fullRun (balancedRows (map (within (liveOffers t)) (trialRows t))) (tableStart (rowTotal t) (size (liveOffers t)) (t .shape .k) (t .level .a) (t .level .b) 0))
+  pub balanced-as-without : Without t (trialBalancedRun t) (balancedRun (remainingTable t) (rowTotal t) (size (liveOffers t)) (t .shape .k) (t .level .a) (t .level .b) 0)
   balanced-as-without = balancing.balanced-without t ok
 
--- where fewer than k offers remain no step is run, in either run: each of them is kept with step 0, its count and plus zero; every figure is M
+  pub figures-as-without : within (liveOffers t) (trialFigures t) ≡ tableFigures (remainingTable t) (rowTotal t) (size (liveOffers t)) (t .shape .k) 0
+  figures-as-without = trialfigures.trial-without t ok
+
+  -- that table has the sums of these offers, and is accepted where k of them or more remain
+  pub remaining-rows : rowsOf (rowTotal t) (size (liveOffers t)) (remainingTable t) ≡ map (within (liveOffers t)) (trialRows t)
+  remaining-rows = without.remaining-rows t ok
+
+  pub remaining-accepted : t .shape .k ≤ size (liveOffers t) → tableRefusal (remainingTable t) (rowTotal t) (size (liveOffers t)) (t .shape .k) (t .level .a) (t .level .b) 0 ≡ 0
+  remaining-accepted = without.remaining-accepted t ok
+
+-- where fewer than k offers remain no step is run, in either run: each of them is kept with step 0, its count and plus zero, and none is rejected; every figure is M
 module _ (t : Trial) (few : size (liveOffers t) < t .shape .k) where
   pub no-step : (trialRun t .records ≡ []) × (trialBalancedRun t .records ≡ [])
   unfolding trialRun trialBalancedRun
   no-step = (asides.few-none t (trialRows t) few, asides.few-none t (balancedRows (trialRows t)) few)
 
-  pub kept-without-steps : (i : ℕ) → i < t .shape .offers → untested (t .shape .design) (figuresAt t i) ≡ false
-      → (getD (trialRun t .verdicts) i (Kept plusZero) ≡ Kept plusZero) × (getD (trialBalancedRun t .verdicts) i (Kept plusZero) ≡ Kept plusZero)
+  pub none-rejected : (rejectedCount (t .shape .offers) (acceptedRun (trialRun t) .decisions) ≡ 0) × (rejectedCount (t .shape .offers) (acceptedRun (trialBalancedRun t) .decisions) ≡ 0)
   unfolding trialRun trialBalancedRun
-  kept-without-steps i h q = (asides.few-told t (trialRows t) i h q few (Kept plusZero), asides.few-told t (balancedRows (trialRows t)) i h q few (Kept plusZero))
+  none-rejected = (lines.few-end t (trialRows t) few, lines.few-end t (balancedRows (trialRows t)) few)
 
-  pub lines-without-steps : (i : ℕ) → i < t .shape .offers → untested (t .shape .design) (figuresAt t i) ≡ false
-      → let reads : ℕ → List ℕ = λ n. line (printed (getD (t .labels .digits) i 0) (getD (t .labels .codes) i 0)) (ascii "kept" ∷ decimal 0 ∷ decimal n ∷ []) in
-      (offerLineAt (t .labels) (acceptedRun (trialRun t)) i ≡ reads (getD (trialRun t .counts) i 0)) × (offerLineAt (t .labels) (acceptedRun (trialBalancedRun t)) i ≡ reads (getD (trialBalancedRun t .counts) i 0))
-  unfolding trialRun trialBalancedRun
-  lines-without-steps i h q = (lines.few-line t (trialRows t) i h q few, lines.few-line t (balancedRows (trialRows t)) i h q few)
+  module _ (i : ℕ) (h : i < t .shape .offers) (q : untested (t .shape .design) (figuresAt t i) ≡ false) where
+    pub kept-without-steps : (d : Verdict) → (getD (trialRun t .verdicts) i d ≡ Kept plusZero) × (getD (trialBalancedRun t .verdicts) i d ≡ Kept plusZero)
+    unfolding trialRun trialBalancedRun
+    kept-without-steps d = (asides.few-told t (trialRows t) i h q few d, asides.few-told t (balancedRows (trialRows t)) i h q few d)
+
+    pub lines-without-steps : let reads : ℕ → List ℕ = λ n. line (printed (getD (t .labels .digits) i 0) (getD (t .labels .codes) i 0)) (ascii "kept" ∷ decimal 0 ∷ decimal n ∷ []) in
+        (offerLineAt (t .labels) (acceptedRun (trialRun t)) i ≡ reads (getD (trialRun t .counts) i 0)) × (offerLineAt (t .labels) (acceptedRun (trialBalancedRun t)) i ≡ reads (getD (trialBalancedRun t .counts) i 0))
+    unfolding trialRun trialBalancedRun
+    lines-without-steps = (lines.few-line t (trialRows t) i h q few, lines.few-line t (balancedRows (trialRows t)) i h q few)
 
   pub few-figures : trialFigures t ≡ replicate (t .shape .offers) (rowTotal t)
   few-figures = trialfigures.trial-few t few
@@ -450,5 +483,5 @@ pub idle-alike : (t u : Trial) (g : ℕ) (idle : ℕ → Bool) → Keeps t u →
 idle-alike = runs-of-trials.idle-alike
 
 -- tables handed in know nothing of this: no column is set aside
-pub tables-tested : (t : List Float) (rows columns k a b observed j : ℕ) → j < columns → isAside (getD (tableRun t rows columns k a b observed .verdicts) j (Kept plusZero)) ≡ false
-tables-tested t rows columns k a b observed j h = told.table-tested t rows columns k a b observed j h (Kept plusZero)
+pub tables-tested : (t : List Float) (rows columns k a b observed j : ℕ) → j < columns → (d : Verdict) → isAside (getD (tableRun t rows columns k a b observed .verdicts) j d) ≡ false
+tables-tested = told.table-tested

@@ -16,7 +16,7 @@ use lib.Ieee.{Float, nan, binary64, ofInt}
 use Rattle.order.specs.Lists.{tabulate}
 use Rattle.order.proofs.Booleans.{and-left, and-right}
 use Rattle.order.proofs.Keys.{key}
-use Rattle.order.proofs.Lists.{getD-map, tabulate-length, tabulate-getD, rowsOf-length}
+use Rattle.order.proofs.Lists.{getD-map, tabulate-length, tabulate-getD}
 use Rattle.order.proofs.Rows.{Sound}
 use Rattle.refusals.specs.Limits.{allowance}
 use Rattle.refusals.proofs.Limits.{allowance-lt}
@@ -25,8 +25,8 @@ use Rattle.columns.proofs.Sets.{has, has-length, _⊆_, ⊆-by}
 use Rattle.columns.proofs.Masks.{columnsOf-length, has-columnsOf}
 use Rattle.runs.specs.Stepdown.{firstState, Outcome, fullRun}
 use Rattle.trial.specs.Aside.{liveOffers, liveMask}
-use Rattle.trial.specs.Designs.{unitsOf, rowCount, entryOf, untested}
-use Rattle.trial.specs.Record.{figuresOf, Setting, Keeps}
+use Rattle.trial.specs.Designs.{rowCount, entryOf, untested}
+use Rattle.trial.specs.Record.{Setting, Keeps}
 use Rattle.trial.specs.Exchange.{byOffer, figuresAt, rowTotal, rowOf, trialRows}
 use Rattle.trial.specs.Refusals.{trialRefusal}
 use Rattle.trial.specs.declared.Design.{Design}

@@ -4,6 +4,7 @@ pub mod Putting
 pub mod VerdictBytes
 pub mod Tables
 pub mod Files
+pub mod FileBytes
 pub mod FigureAnswers
 pub mod AdjustedTables
 pub mod AdjustedFiles

@@ -1,8 +1,9 @@
 -- The verdicts of a full run, by rejected sets alone.
 --   verdict-at       where k or more columns are live, a column's verdict is rejected exactly where the method rejects it at the run's e
---   too-few-none     where fewer are, no step is taken and no column is rejected
+--   too-few-none, few-reject-none     where fewer are, no step is taken and no column is rejected
 use Prim.Native.Nat.{ℕ, zero, suc, _+_, _≤_, _<_}
 use native.Mathlib.Numerals.{add-one}
+use native.Mathlib.Omega.{arith}
 use mathlib.Core.Path.{_≡_, refl, sym, ap, ap₂, _∙_, subst}
 use mathlib.Core.Bool.{Bool, true, false, cond, _&&_}
 use mathlib.Core.List.{List, [], map}
@@ -11,7 +12,9 @@ use lib.Dec.{T}
 use lib.Ieee.{Float}
 use borrow.Author.Tests.{lt-ltb, le-ltb}
 use Rattle.order.specs.Order.{plusZero}
-use Rattle.order.proofs.Booleans.{same-test, and-right, and-both, or-left, true-T, T-true}
+use Rattle.order.specs.Counting.{count}
+use Rattle.order.proofs.Booleans.{same-test, and-right, and-both, or-left, never, true-T, T-true}
+use Rattle.order.proofs.Counts.{countBelow-le, countBelow-none, countBelow-list}
 use Rattle.order.proofs.Rows.{Sound}
 use Rattle.columns.specs.Columns.{Columns, size, _∪_, inSet, columnsOf}
 use Rattle.columns.proofs.Sets.{has, has-∪, ⊆-at}
@@ -24,7 +27,7 @@ use Rattle.runs.proofs.Steps.{seenRow, at-column, both-length, next-rej
 use Rattle.runs.proofs.Start.{first-empty}
 use Rattle.runs.proofs.Termination.{lastState}
 use Rattle.runs.proofs.RejectedSets.{stepRejects, rejectedFrom, rejectedSetAt, rejected-live}
-use Rattle.runs.proofs.Told.{rejected-told}
+use Rattle.runs.proofs.Told.{verdicts-length, rejected-told}
 
 -- ---- from step to step
 
@@ -116,3 +119,14 @@ module _ (X : List (List Float)) (rows columns k e observed live : ℕ) (j : ℕ
   pub too-few-none : size (columnsOf columns live) < k → isRejected (getD (fullRun X (firstState rows columns k e observed live) .verdicts) j (Kept plusZero)) ≡ false
   unfolding stepsFrom
   too-few-none few = run-verdict true (lt-ltb (size (columnsOf columns live)) k few) ∙ same-test (inSet live j && false) false (and-right (inSet live j) false) (λ t. absurd t)
+
+pub few-reject-none : (X : List (List Float)) (rows columns k e observed live : ℕ) → size (columnsOf columns live) < k → count isRejected (fullRun X (firstState rows columns k e observed live) .verdicts) ≡ 0
+few-reject-none X rows columns k e observed live few =
+    let vs = fullRun X (firstState rows columns k e observed live) .verdicts in
+    omega (
+      arith,
+      countBelow-list isRejected vs (Kept plusZero),
+      countBelow-le (length vs) (λ j. isRejected (getD vs j (Kept plusZero))) (λ _. false)
+          (λ j l t. never (isRejected (getD vs j (Kept plusZero))) (too-few-none X rows columns k e observed live j (omega (arith, verdicts-length X (firstState rows columns k e observed live))) few) t),
+      countBelow-none (length vs),
+    )

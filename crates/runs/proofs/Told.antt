@@ -6,27 +6,30 @@
 --   rejected-told                 what is rejected is live, and a step rejects it
 --   aside-exactly                 a column is told as set aside exactly where it is not live
 --   table-tested                  no column of a table is set aside
+--   decision-held, count-held      the verdict and the count of a column in the run that is answered
 --   few-records, few-kept         where fewer than k columns are live there is no step, and each of them is kept with plus zero
-use Prim.Native.Nat.{ℕ, _<_}
+use Prim.Native.Nat.{ℕ, _-_, _<_}
+use native.Mathlib.Omega.{arith}
 use mathlib.Core.Path.{_≡_, refl, sym, ap, _∙_}
 use mathlib.Core.Bool.{Bool, true, false, not, cond, _&&_}
 use mathlib.Core.List.{List, [], _∷_, map}
-use lib.ListN.{length, getD}
+use lib.ListN.{length, getD, replicate, length-map, List·getD-append}
 use lib.Ieee.{Float, nan}
 use borrow.Author.Tests.{lt-ltb}
 use Rattle.order.specs.Order.{plusZero}
 use Rattle.order.specs.Lists.{rowsOf}
-use Rattle.order.proofs.Lists.{tabulate-length, tabulate-getD}
+use Rattle.order.proofs.Lists.{getD-map, tabulate-length, tabulate-getD}
 use Rattle.columns.specs.Columns.{Columns, size, inSet, columnsOf, fullMask}
 use Rattle.columns.proofs.Sets.{has, has-all}
 use Rattle.columns.proofs.Masks.{has-columnsOf, full-columns}
 use Rattle.method.specs.Method.{atLeast}
-use Rattle.runs.specs.Stepdown.{firstState, stepsFrom, stepsOf, verdictFrom, verdictOf, verdictAt, countAt, fullRun}
+use Rattle.runs.specs.Stepdown.{firstState, stepsFrom, stepsOf, verdictFrom, verdictOf, verdictAt, countAt, Outcome, fullRun}
 use Rattle.runs.specs.Tables.{tableStart, tableRun}
-use Rattle.runs.specs.FullRuns.{isRejected, isAside}
+use Rattle.runs.specs.FullRuns.{decision, acceptedRun, isRejected, isAside}
 use Rattle.runs.specs.declared.State.{State}
 use Rattle.runs.specs.declared.Step.{Step}
 use Rattle.runs.specs.declared.Verdict.{Verdict}
+use Rattle.runs.specs.declared.Decision.{Decision}
 use Rattle.runs.specs.declared.Verdict.the-variants.{Rejected, Kept, Aside}
 
 only-live : (c : Bool) (v : Verdict) → isRejected (cond c v Aside) ≡ (c && isRejected v)
@@ -106,3 +109,16 @@ module _ (X : List (List Float)) (rows columns k e observed live : ℕ) (few : s
   pub few-kept : (j : ℕ) → j < columns → inSet live j ≡ true → (d : Verdict) → getD (fullRun X (firstState rows columns k e observed live) .verdicts) j d ≡ Kept plusZero
   unfolding verdictOf
   few-kept j h q d = verdict-live X first j h d q ∙ ap (λ (ss : List Step). verdictOf ss j) no-steps
+
+-- ---- the run that is answered
+
+module _ (o : Outcome) (i : ℕ) where
+  pub decision-held : i < length (o .verdicts) → (x : Decision) (d : Verdict) → getD (acceptedRun o .decisions) i x .verdict ≡ getD (o .verdicts) i d
+  unfolding acceptedRun
+  decision-held h x d =
+      let ds = map decision (o .verdicts) in
+      ap (λ y. y .verdict) (List·getD-append ds (replicate (32 - length ds) (decision (Kept plusZero))) x i (omega (arith, length-map (o .verdicts) decision)) ∙ getD-map decision (o .verdicts) i d x h)
+
+  pub count-held : i < length (o .counts) → getD (acceptedRun o .counts) i 0 ≡ getD (o .counts) i 0
+  unfolding acceptedRun
+  count-held h = List·getD-append (o .counts) (replicate (32 - length (o .counts)) 0) 0 i h

@@ -2,7 +2,8 @@
 --   Alike s u             u is the state s, seen from the live columns L alone (columns/proofs/Parts.antt)
 --   critical-alike, newly-alike, next-alike     such states have the same critical value, reject the same columns, and a step keeps them so
 --   records-without       both runs leave the same records
---   verdicts-without, counts-without     and tell the same of each live column
+--   verdict-without, verdicts-without, counts-without     and tell the same of each live column
+--   rest-sound            the rows without the other columns
 use Prim.Native.Nat.{ℕ, zero, suc, _+_, _<_}
 use native.Mathlib.Omega.{arith}
 use mathlib.Core.Path.{_≡_, refl, sym, ap, ap₂, _∙_, subst}
@@ -38,7 +39,7 @@ module _ (X : List (List Float)) (n : ℕ) (sound : Sound n X) (L : Columns) (le
   abbrev Y : List (List Float)
   Y = map (within L) X
 
-  rest-sound : (Z : List (List Float)) → Sound n Z → Sound (size L) (map (within L) Z)
+  pub rest-sound : (Z : List (List Float)) → Sound n Z → Sound (size L) (map (within L) Z)
   unfolding all
   rest-sound [] s = tt
   rest-sound (row ∷ Z) s =
@@ -230,9 +231,9 @@ module _ (X : List (List Float)) (rows columns k e observed live : ℕ) (sound :
     part-on : inSet (fullMask (size (columnsOf columns live))) i ≡ true
     part-on = sym (has-columnsOf (size L) (fullMask (size L)) i h) ∙ ap (λ (K : Columns). has K i) (full-columns (size L)) ∙ has-all (size L) i h
 
-    verdict-at-part : (d : Verdict) → getD (fullRun X full .verdicts) (position L i) d ≡ getD (fullRun (map (within L) X) part .verdicts) i d
+    pub verdict-without : (d : Verdict) → getD (fullRun X full .verdicts) (position L i) d ≡ getD (fullRun (map (within L) X) part .verdicts) i d
     unfolding verdictOf
-    verdict-at-part d = verdict-live X full (position L i) at d on ∙ sym (verdict-live (map (within L) X) part i h d part-on ∙ verdict-alike X columns sound L long plusZero i h run-alike)
+    verdict-without d = verdict-live X full (position L i) at d on ∙ sym (verdict-live (map (within L) X) part i h d part-on ∙ verdict-alike X columns sound L long plusZero i h run-alike)
 
     seen-at-part : getD (getD (map (within L) X) observed []) i nan ≡ getD (getD X observed []) (position L i) nan
     seen-at-part =
@@ -251,7 +252,7 @@ module _ (X : List (List Float)) (rows columns k e observed live : ℕ) (sound :
       let vs = fullRun X full .verdicts in
       let m : length (within L vs) ≡ size L = within-length L vs (verdicts-length X full ∙ sym long) in
       ext-getD (Kept plusZero) (within L vs) (fullRun (map (within L) X) part .verdicts) (m ∙ sym (verdicts-length (map (within L) X) part))
-      (λ i l. let h : i < size L = omega arith in within-at L vs i (Kept plusZero) h (verdicts-length X full ∙ sym long) ∙ verdict-at-part i h (Kept plusZero))
+      (λ i l. let h : i < size L = omega arith in within-at L vs i (Kept plusZero) h (verdicts-length X full ∙ sym long) ∙ verdict-without i h (Kept plusZero))
 
   pub counts-without : within (columnsOf columns live) (fullRun X (firstState rows columns k e observed live) .counts)
       ≡ fullRun (map (within (columnsOf columns live)) X) (firstState rows (size (columnsOf columns live)) k e observed (fullMask (size (columnsOf columns live)))) .counts

@@ -3,6 +3,7 @@
 --   trial-stays          loosening: an offer that is rejected at e is rejected at every larger one below M
 --   trial-figure-law     an offer's figure is at most e exactly where the method rejects it at e, for every e below M
 --   trial-pass           where k or more offers remain, one pass over them gives the figures
+--   trial-without        of the offers that remain they are the figures of the table of these offers
 --   trial-aside, trial-few     the figure of an offer that is set aside is M; where fewer than k offers remain every figure is
 --   one-level            the level has no part in the figures: they are the same for every trial with the same shape and the same figures of each offer
 --   trial-length, trial-most     there is a figure for each offer, and it is at most M
@@ -21,13 +22,14 @@ use Rattle.order.specs.Lists.{tabulate}
 use Rattle.order.proofs.Booleans.{T-true}
 use Rattle.refusals.specs.Limits.{allowance}
 use Rattle.refusals.proofs.Limits.{allowance-lt}
-use Rattle.columns.specs.Columns.{Columns, size, maskOf}
+use Rattle.columns.specs.Columns.{Columns, size, within, maskOf, fullMask}
 use Rattle.runs.specs.FullRuns.{isRejected}
 use Rattle.runs.specs.declared.Verdict.the-variants.{Kept}
-use Rattle.adjustment.specs.Adjusted.{rejectedAt, adjustedFigure, adjustedFigures}
+use Rattle.adjustment.specs.Adjusted.{rejectedAt, adjustedFigure, adjustedFigures, tableFigures}
 use Rattle.adjustment.specs.Passes.{kMaxPass}
 use Rattle.adjustment.proofs.Figures.{figure-law, figure-most, figure-aside, stays-rejected, figures-length, figures-at, figures-few}
 use Rattle.adjustment.proofs.Passing.{kMaxPass-agrees}
+use Rattle.adjustment.proofs.Without.{figures-without}
 use Rattle.trial.specs.Aside.{liveOffers, liveMask}
 use Rattle.trial.specs.Designs.{rowCount, entryOf, untested}
 use Rattle.trial.specs.Exchange.{rowTotal, byOffer, figuresAt, rowOf, trialRows}
@@ -38,6 +40,7 @@ use Rattle.trial.proofs.Accepted.{Accepted, accepted}
 use Rattle.trial.proofs.Aside.{live-columns, live-bit}
 use Rattle.trial.proofs.Tables.{trialRows-length, trialRows-sound, rowTotal-some}
 use Rattle.trialrun.specs.TrialRuns.{trialRun}
+use Rattle.trialrun.proofs.Without.{remainingTable, remaining-rows}
 use Rattle.trialadjustment.specs.TrialFigures.{rejectedOf, trialFigures}
 
 pub one-level : (t u : Trial) → t .shape ≡ u .shape → byOffer t ≡ byOffer u → trialFigures t ≡ trialFigures u
@@ -83,6 +86,13 @@ module _ (t : Trial) where
     trial-pass held =
         ap (λ (K : Columns). kMaxPass (t .shape .k) X K 0) (sym (live-columns t))
         ∙ kMaxPass-agrees X (rowTotal t) (t .shape .offers) (t .shape .k) 0 (liveMask t) (trialRows-sound t acc) tall (rowTotal-some t) narrow (acc .k-some) (omega (arith, ap size (live-columns t)))
+
+    pub trial-without : within (liveOffers t) (trialFigures t) ≡ tableFigures (remainingTable t) (rowTotal t) (size (liveOffers t)) (t .shape .k) 0
+    unfolding trialFigures tableFigures
+    trial-without =
+        subst (λ (L : Columns). within L (adjustedFigures X (rowTotal t) (t .shape .offers) (t .shape .k) 0 (liveMask t)) ≡ adjustedFigures (map (within L) X) (rowTotal t) (size L) (t .shape .k) 0 (fullMask (size L))) (live-columns t)
+        (figures-without X (rowTotal t) (t .shape .offers) (t .shape .k) 0 (liveMask t) (trialRows-sound t acc) (omega (arith, tall, rowTotal-some t)))
+        ∙ ap (λ (Y : List (List Float)). adjustedFigures Y (rowTotal t) (size (liveOffers t)) (t .shape .k) 0 (fullMask (size (liveOffers t)))) (sym (remaining-rows t ok))
 
     module _ (i : ℕ) (h : i < t .shape .offers) where
       pub trial-stays : (e e′ : ℕ) → e ≤ e′ → e′ < rowTotal t → T (rejectedOf t e i) → T (rejectedOf t e′ i)

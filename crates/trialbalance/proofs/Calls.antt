@@ -7,20 +7,20 @@
 --   balancedRun-table              the balanced full run, by that table
 --   nothing-aside                  where no offer is set aside it is the balanced full run of the trial's table
 --   trial-counts                   its counts are those of the plain run
---   balanced-without               it is that of the table without the columns of the offers that are set aside, balanced
+--   balanced-without               it is the balanced full run of the table of the offers that remain
 use Prim.Native.Nat.{ℕ, _*_, _^_, _≤_}
 use native.Mathlib.Omega.{arith}
 use mathlib.Core.Path.{_≡_, sym, ap, ap₂, _∙_, subst}
-use mathlib.Core.List.{List, _++_, map}
+use mathlib.Core.List.{List, _++_}
 use lib.ListN.{length, take, drop, length-append}
 use lib.Seq.{take-at, drop-at}
 use lib.Ieee.{Float}
 use Rattle.order.specs.Lists.{rowsOf}
 use Rattle.limits.specs.Limits.{trialRowsMost}
 use Rattle.refusals.specs.Buffers.{written}
-use Rattle.columns.specs.Columns.{size, within, fullMask}
+use Rattle.columns.specs.Columns.{size, fullMask}
 use Rattle.masks.specs.Internal.{CheckedTable}
-use Rattle.runs.specs.Stepdown.{fullRun}
+use Rattle.runs.specs.Stepdown.{Outcome, fullRun}
 use Rattle.runs.specs.Tables.{tableStart, tableRun}
 use Rattle.stepdown.proofs.Accepted as tables
 use Rattle.balance.specs.Balance.{balancedRows, balancedTable}
@@ -28,7 +28,7 @@ use Rattle.balance.proofs.Balanced.{balancedRows-length, balanced-sound, balanc
 use Rattle.ranking.specs.Internal.{Rankable}
 use Rattle.tablebalance.specs.Answers.{balancedRun}
 use Rattle.tablebalance.proofs.Accepted.{accepted-balanced}
-use Rattle.tablebalance.proofs.Counted.{run-counts}
+use Rattle.tablebalance.proofs.Counted.{run-counts, balancedRun-rows}
 use Rattle.trial.specs.Aside.{liveOffers, liveMask}
 use Rattle.trial.specs.Exchange.{rowTotal, trialRows, tableOf}
 use Rattle.trial.specs.declared.Trial.{Trial}
@@ -40,7 +40,7 @@ use Rattle.trial.proofs.Tables.{trialRows-length, trialRows-sound, tableOf-leng
 use Rattle.trialrun.specs.TrialRuns.{trialStart, trialRun, runSize, runTable}
 use Rattle.trialrun.proofs.Tabled.{free, rows-are, columns-are, same-total, good, filled, front, asked}
 use Rattle.trialrun.proofs.Runs.{table-accepted, start-all}
-use Rattle.trialrun.proofs.Without.{Without, run-without}
+use Rattle.trialrun.proofs.Without.{Without, run-without, remainingTable, remaining-rows, remaining-length}
 use Rattle.trialbalance.specs.TrialBalance.{trialBalanced, trialBalancedRun, runBalanced}
 use Rattle.trialbalance.proofs.Parts.{balanced-part}
 
@@ -122,9 +122,13 @@ module _ (t : Trial) where
     unfolding trialBalancedRun trialRun
     trial-counts = run-counts (trialRows t) (trialStart t) (trialRows-sound t acc) few (omega (arith, trialRows-length t, rowTotal-some t))
 
-    pub balanced-without : Without t (trialBalancedRun t) (fullRun (balancedRows (map (within (liveOffers t)) (trialRows t))) (tableStart (rowTotal t) (size (liveOffers t)) (t .shape .k) (t .level .a) (t .level .b) 0))
+    pub balanced-without : Without t (trialBalancedRun t) (balancedRun (remainingTable t) (rowTotal t) (size (liveOffers t)) (t .shape .k) (t .level .a) (t .level .b) 0)
     unfolding trialBalancedRun
     balanced-without =
-        subst (λ (Y : List (List Float)). Without t (fullRun (balancedRows (trialRows t)) (trialStart t)) (fullRun Y (tableStart (rowTotal t) (size (liveOffers t)) (t .shape .k) (t .level .a) (t .level .b) 0)))
-        (balanced-part (t .shape .offers) (trialRows t) (trialRows-sound t acc) (liveOffers t) (live-length t))
+        let n = size (liveOffers t) in
+        let start = tableStart (rowTotal t) n (t .shape .k) (t .level .a) (t .level .b) 0 in
+        subst (λ (o : Outcome). Without t (fullRun (balancedRows (trialRows t)) (trialStart t)) o)
+        (ap (λ (Y : List (List Float)). fullRun Y start)
+        (balanced-part (t .shape .offers) (trialRows t) (trialRows-sound t acc) (liveOffers t) (live-length t) ∙ ap balancedRows (sym (remaining-rows t ok)))
+        ∙ sym (balancedRun-rows (remainingTable t) (rowTotal t) n (t .shape .k) (t .level .a) (t .level .b) 0 (remaining-length t ok)))
         (run-without t (balancedRows (trialRows t)) (balanced-sound (t .shape .offers) (trialRows t) (trialRows-sound t acc) few) (omega (arith, balancedRows-length (trialRows t), trialRows-length t, rowTotal-some t)))

@@ -8,18 +8,15 @@ use mathlib.Core.Path.{_≡_, sym, ap, ap₂, _∙_}
 use mathlib.Core.List.{List}
 use lib.ListN.{length}
 use lib.Ieee.{Float}
-use Rattle.order.specs.Lists.{rowsOf}
 use Rattle.refusals.specs.Answers.{Checks, answer, afterwards}
 use Rattle.refusals.specs.Buffers.{written}
-use Rattle.refusals.specs.Limits.{allowance}
-use Rattle.runs.specs.Stepdown.{firstState, Outcome, fullRun}
+use Rattle.runs.specs.Stepdown.{Outcome}
 use Rattle.runs.specs.FullRuns.{acceptedRun, refusedRun}
 use Rattle.balance.specs.Balance.{balancedTable}
-use Rattle.trial.specs.Aside.{liveMask}
 use Rattle.trial.specs.Exchange.{rowTotal, tableOf}
-use Rattle.trial.specs.Record.{Contents, Same}
+use Rattle.trial.specs.Record.{Same}
 use Rattle.trial.specs.declared.Trial.{Trial}
-use Rattle.trial.proofs.Unused.{offers-same, table-same, rows-same, live-same}
+use Rattle.trial.proofs.Unused.{offers-same, table-same, rows-same}
 use Rattle.trialrun.proofs.Unused.{asked-same, over-same}
 use Rattle.trialbalance.specs.TrialBalance.{trialBalanced, trialBalancedRun, trialBalancedAnswer, runBalanced}
 use Rattle.trialbalance.proofs.Calls.{balancedRun-table}

@@ -15,7 +15,7 @@ use Rattle.refusals.specs.Limits.{allowance}
 use Rattle.runs.specs.Stepdown.{firstState, Outcome, fullRun}
 use Rattle.runs.specs.FullRuns.{acceptedRun, refusedRun}
 use Rattle.trial.specs.Aside.{liveMask}
-use Rattle.trial.specs.Exchange.{rowTotal, tableOf}
+use Rattle.trial.specs.Exchange.{rowTotal}
 use Rattle.trial.specs.Refusals.{trialChecks}
 use Rattle.trial.specs.Record.{Contents, Same}
 use Rattle.trial.specs.declared.Trial.{Trial}
