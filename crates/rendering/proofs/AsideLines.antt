@@ -21,7 +21,7 @@ use Rattle.runs.specs.declared.Verdict.the-variants.{Rejected, Kept, Aside}
 use Rattle.runs.proofs.Told.{verdicts-length, counts-length, decision-held, count-held}
 use Rattle.runs.proofs.RejectedVerdicts.{few-reject-none}
 use Rattle.verdicts.specs.Verdicts.{rejectedCount}
-use Rattle.verdicts.proofs.Counted.{count-told}
+use Rattle.verdicts.proofs.Counted.{count-answered}
 use Rattle.trial.specs.Aside.{liveOffers, liveMask}
 use Rattle.trial.specs.Designs.{untested}
 use Rattle.trial.specs.Exchange.{figuresAt, rowTotal}
@@ -57,5 +57,5 @@ module _ (t : Trial) (X : List (List Float)) (i : ℕ) (h : i < t .shape .offers
 
 pub few-end : (t : Trial) (X : List (List Float)) → size (liveOffers t) < t .shape .k → rejectedCount (t .shape .offers) (acceptedRun (fullRun X (trialStart t)) .decisions) ≡ 0
 few-end t X few =
-    count-told (t .shape .offers) (fullRun X (trialStart t)) (verdicts-length X (trialStart t))
+    count-answered (t .shape .offers) (fullRun X (trialStart t)) (verdicts-length X (trialStart t))
     ∙ few-reject-none X (rowTotal t) (t .shape .offers) (t .shape .k) (allowance (rowTotal t) (t .level .a) (t .level .b)) 0 (liveMask t) (omega (arith, ap size (live-columns t)))

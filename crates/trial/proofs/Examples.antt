@@ -1,15 +1,15 @@
 -- The trial W of document 01: the sums of its rows, and that none of its settings is refused. Trials with offers that are set aside (document 02, §4).
 --   w-sums                              the sums of W's rows
---   w-settings-accepted, w-accepted     no setting of W is refused
---   w-live, aside-live, cancelled-live, zeros-live     which offers take part: both of W; not the third offer; not one of zeros, but one whose differences cancel; none
---   aside-accepted, cancelled-accepted, zeros-accepted     none of these trials is refused
+--   w-settings-accepted                 no setting of W is refused
+--   live-examples, accepted-examples    which offers of W and of these trials take part, and that none of these trials is refused
 use mathlib.Core.Path.{_≡_, refl}
-use mathlib.Core.List.{map}
+use mathlib.Core.List.{List, [], _∷_, map}
 use Rattle.order.specs.Lists.{tabulate}
 use Rattle.trial.specs.Designs.{signedSum}
 use Rattle.trial.specs.Exchange.{byOffer, rowTotal}
 use Rattle.trial.specs.Aside.{liveMask}
 use Rattle.trial.specs.Refusals.{trialRefusal}
+use Rattle.trial.specs.declared.Trial.{Trial}
 use Rattle.trial.specs.Examples.{trialWith, trialW, sumsW, settings, trialAside, trialCancelled, trialZeros}
 
 pub w-sums : tabulate (rowTotal trialW) (λ g. map (signedSum g) (byOffer trialW)) ≡ sumsW
@@ -21,36 +21,15 @@ pub w-settings-accepted : map (λ s. trialRefusal (trialWith (s .0) (s .1) (s .2
 unfolding trialRefusal settings
 w-settings-accepted = refl
 
-pub w-accepted : trialRefusal trialW ≡ 0
-unfolding trialRefusal trialW
-w-accepted = refl
+-- W, and trials with offers that are set aside
+abbrev trials : List Trial
+trials = trialCancelled ∷ trialW ∷ trialAside ∷ trialZeros ∷ []
 
--- ---- offers that are set aside
+-- bit i: offer i takes part. One whose differences cancel does, and one of zeros does not; both of W do; W's two and not the third; none
+pub live-examples : map liveMask trials ≡ 1 ∷ 3 ∷ 3 ∷ 0 ∷ []
+unfolding liveMask trialCancelled trialW trialAside trialZeros
+live-examples = refl
 
-pub cancelled-live : liveMask trialCancelled ≡ 1
-unfolding liveMask trialCancelled
-cancelled-live = refl
-
-pub w-live : liveMask trialW ≡ 3
-unfolding liveMask trialW
-w-live = refl
-
-pub aside-live : liveMask trialAside ≡ 3
-unfolding liveMask trialAside
-aside-live = refl
-
-pub zeros-live : liveMask trialZeros ≡ 0
-unfolding liveMask trialZeros
-zeros-live = refl
-
-pub aside-accepted : trialRefusal trialAside ≡ 0
-unfolding trialRefusal trialAside
-aside-accepted = refl
-
-pub cancelled-accepted : trialRefusal trialCancelled ≡ 0
-unfolding trialRefusal trialCancelled
-cancelled-accepted = refl
-
-pub zeros-accepted : trialRefusal trialZeros ≡ 0
-unfolding trialRefusal trialZeros
-zeros-accepted = refl
+pub accepted-examples : map trialRefusal trials ≡ map (λ _. 0) trials
+unfolding trialRefusal trialCancelled trialW trialAside trialZeros
+accepted-examples = refl

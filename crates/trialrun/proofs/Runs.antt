@@ -1,4 +1,5 @@
 -- The full run of a trial: its table is accepted, so it can be run over the offers that are not set aside.
+--   rows-again, joined-is, rows-accepted     a table with as many rows, of k columns or more: its rows, its length, and that it is accepted
 --   table-accepted, table-checked  the table of an accepted trial is an accepted one
 --   level-known, startable         what the engine asks for: a level, and a table in the trial's buffer
 --   told, left                     what its full run tells and leaves, of the trial's table or of one in its place
@@ -11,14 +12,16 @@ use mathlib.Core.Path.{_≡_, refl, sym, ap, ap₂, _∙_}
 use mathlib.Core.Bool.{false, not}
 use mathlib.Core.List.{List}
 use lib.ListN.{length}
+use lib.Dec.{T, eqb}
 use lib.Ieee.{Float}
 use borrow.Author.Tests.{le-ltb, lt-leb, eq-eqb}
 use Rattle.order.specs.Order.{finite}
 use Rattle.order.specs.Counting.{all}
-use Rattle.order.specs.Lists.{rowsOf}
-use Rattle.order.proofs.Booleans.{T-true, not-no}
-use Rattle.order.proofs.Lists.{joined-all}
-use Rattle.order.proofs.Rows.{sound-all}
+use Rattle.order.specs.Lists.{rowsOf, joined}
+use Rattle.order.proofs.Booleans.{T-true, not-no, and-left}
+use Rattle.order.proofs.Counts.{all-le}
+use Rattle.order.proofs.Lists.{joined-all, joined-length, rowsOf-joined}
+use Rattle.order.proofs.Rows.{Sound, soundRow, sound-all}
 use Rattle.limits.specs.Limits.{toleranceMost, trialRowsMost, tableRowsMost}
 use Rattle.refusals.specs.Answers.{answer}
 use Rattle.refusals.specs.Buffers.{cleared}
@@ -39,7 +42,7 @@ use Rattle.trial.specs.declared.Trial.{Trial}
 use Rattle.trial.specs.declared.TableSize.{TableSize}
 use Rattle.trial.proofs.Accepted.{Accepted}
 use Rattle.trial.proofs.Aside.{live-fits}
-use Rattle.trial.proofs.Tables.{trialRows-sound, rowTotal-some, tableOf-length, tableOf-rows}
+use Rattle.trial.proofs.Tables.{trialRows-length, trialRows-sound, rowTotal-some, tableOf-rows}
 use Rattle.trialrun.specs.TrialRuns.{trialStart, trialRun, runCallChecks, runSize, runTable, runWork}
 use Rattle.trialrun.proofs.Tabled.{good, rows-are, columns-are, live-is, work-room, free, asked}
 
@@ -50,21 +53,32 @@ module _ (t : Trial) (a : Accepted t) where
   unfolding rowTotal
   rows-most = a .laid .rows-most
 
-  shape-good : badShape (rowTotal t) (t .shape .offers) (t .shape .k) ≡ false
-  unfolding badSizes
-  shape-good =
-      neither (within 1 4096 (rowTotal t) (rowTotal-some t) (omega (arith, rows-most)))
-      (neither (within 1 32 (t .shape .offers) (a .offers-some) (omega (arith, a .offers-most))) (neither (within 1 toleranceMost (t .shape .k) (a .k-some) (a .k-most)) (le-ltb (t .shape .offers) (t .shape .k) (a .k-held))))
+  -- a table with as many rows, of n columns: all offers, or those that remain
+  module _ (n : ℕ) (X : List (List Float)) (tall : length X ≡ rowTotal t) (sound : Sound n X) where
+    even : T (all (λ row. eqb (length row) n) X)
+    even = all-le (soundRow n) (λ row. eqb (length row) n) X (λ row q. and-left (eqb (length row) n) (all finite row) q) sound
 
-  values-good : badValue (tableOf t) ≡ false
-  unfolding badValue tableOf
-  values-good = ap not (T-true (all finite (tableOf t)) (joined-all finite (trialRows t) (sound-all (t .shape .offers) (trialRows t) (trialRows-sound t a))))
+    pub rows-again : rowsOf (rowTotal t) n (joined X) ≡ X
+    rows-again = ap (λ (m : ℕ). rowsOf m n (joined X)) (sym tall) ∙ rowsOf-joined n X even
+
+    pub joined-is : length (joined X) ≡ rowTotal t * n
+    joined-is = joined-length n X even ∙ ap (λ (m : ℕ). m * n) tall
+
+    shape-good : t .shape .k ≤ n → n ≤ t .shape .offers → badShape (rowTotal t) n (t .shape .k) ≡ false
+    unfolding badSizes
+    shape-good held narrow =
+        neither (within 1 4096 (rowTotal t) (rowTotal-some t) (omega (arith, rows-most)))
+        (neither (within 1 32 n (omega (arith, a .k-some)) (omega (arith, a .offers-most))) (neither (within 1 toleranceMost (t .shape .k) (a .k-some) (a .k-most)) (le-ltb n (t .shape .k) held)))
+
+    pub rows-accepted : t .shape .k ≤ n → n ≤ t .shape .offers → tableRefusal (joined X) (rowTotal t) n (t .shape .k) (t .level .a) (t .level .b) 0 ≡ 0
+    unfolding tableRefusal tableChecks badValue
+    rows-accepted held narrow =
+        none-first (tableChecks (joined X) (rowTotal t) n (t .shape .k) (t .level .a) (t .level .b) 0)
+        (shape-good held narrow, (a .level-good, (not-no _ (eq-eqb (length (joined X)) (rowTotal t * n) joined-is), (lt-leb (rowTotal t) 0 (rowTotal-some t), (ap not (T-true (all finite (joined X)) (joined-all finite X (sound-all n X sound))), tt)))))
 
   pub table-accepted : tableRefusal (tableOf t) (rowTotal t) (t .shape .offers) (t .shape .k) (t .level .a) (t .level .b) 0 ≡ 0
-  unfolding tableRefusal tableChecks
-  table-accepted =
-      none-first (tableChecks (tableOf t) (rowTotal t) (t .shape .offers) (t .shape .k) (t .level .a) (t .level .b) 0)
-      (shape-good, (a .level-good, (not-no _ (eq-eqb (length (tableOf t)) (rowTotal t * t .shape .offers) (tableOf-length t)), (lt-leb (rowTotal t) 0 (rowTotal-some t), (values-good, tt)))))
+  unfolding tableOf
+  table-accepted = rows-accepted (t .shape .offers) (trialRows t) (trialRows-length t) (trialRows-sound t a) (a .k-held) (omega arith)
 
 -- ---- the full run of a table in the trial's buffer
 

@@ -3,32 +3,21 @@
 --   run-without        so it is for the full run of X without the other columns
 --   remainingTable t   the table of the offers that remain; its rows, its length, and that it is accepted where k or more remain: remaining-..
 --   trial-without      the full run of the trial is that of this table
-use Prim.Native.Nat.{ℕ, _*_, _≤_, _<_}
+use Prim.Native.Nat.{_*_, _≤_, _<_}
 use native.Mathlib.Omega.{arith}
-use mathlib.Core.Path.{_≡_, sym, ap, _∙_, subst}
-use mathlib.Core.Bool.{not}
+use mathlib.Core.Path.{_≡_, sym, _∙_, subst}
 use mathlib.Core.List.{List, map}
 use lib.ListN.{length, length-map}
-use lib.Dec.{T, eqb}
 use lib.Ieee.{Float}
-use borrow.Author.Tests.{le-ltb, lt-leb, eq-eqb}
-use Rattle.order.specs.Order.{finite}
-use Rattle.order.specs.Counting.{all}
 use Rattle.order.specs.Lists.{rowsOf, joined}
-use Rattle.order.proofs.Booleans.{T-true, not-no, and-left}
-use Rattle.order.proofs.Counts.{all-le}
-use Rattle.order.proofs.Lists.{joined-all, joined-length, rowsOf-joined}
-use Rattle.order.proofs.Rows.{Sound, soundRow, sound-all}
-use Rattle.limits.specs.Limits.{toleranceMost}
-use Rattle.refusals.specs.Limits.{badSizes, allowance}
-use Rattle.refusals.proofs.Answers.{none-first}
-use Rattle.refusals.proofs.Limits.{neither}
+use Rattle.order.proofs.Rows.{Sound}
+use Rattle.refusals.specs.Limits.{allowance}
 use Rattle.columns.specs.Columns.{Columns, size, within}
 use Rattle.columns.proofs.Sets.{size-length}
 use Rattle.runs.specs.Stepdown.{Outcome, fullRun}
 use Rattle.runs.specs.Tables.{tableStart, tableRun}
 use Rattle.runs.proofs.Without.{rest-sound, records-without, verdicts-without, counts-without}
-use Rattle.stepdown.specs.Refusals.{badValue, tableChecks, tableRefusal}
+use Rattle.stepdown.specs.Refusals.{tableRefusal}
 use Rattle.trial.specs.Aside.{liveOffers, liveMask}
 use Rattle.trial.specs.Exchange.{rowTotal, trialRows}
 use Rattle.trial.specs.Refusals.{trialRefusal}
@@ -37,6 +26,7 @@ use Rattle.trial.proofs.Accepted.{Accepted, accepted}
 use Rattle.trial.proofs.Aside.{live-length, live-columns}
 use Rattle.trial.proofs.Tables.{trialRows-length, trialRows-sound, rowTotal-some}
 use Rattle.trialrun.specs.TrialRuns.{trialStart, trialRun}
+use Rattle.trialrun.proofs.Runs.{rows-again, joined-is, rows-accepted}
 
 module _ (t : Trial) where
   -- o is what a run of the trial tells of all offers, and r what one of the remaining offers tells of them
@@ -79,26 +69,17 @@ module _ (t : Trial) where
     rest-tall : length (map (within (liveOffers t)) (trialRows t)) ≡ rowTotal t
     rest-tall = length-map (trialRows t) (within L) ∙ trialRows-length t
 
-    pub remaining-sound : Sound (size (liveOffers t)) (map (within (liveOffers t)) (trialRows t))
-    remaining-sound = rest-sound (trialRows t) (t .shape .offers) (trialRows-sound t acc) L (live-length t) (trialRows t) (trialRows-sound t acc)
-
-    even : T (all (λ r. eqb (length r) (size (liveOffers t))) (map (within (liveOffers t)) (trialRows t)))
-    even = all-le (soundRow (size L)) (λ r. eqb (length r) (size L)) rest (λ r q. and-left (eqb (length r) (size L)) (all finite r) q) remaining-sound
+    rest-rows : Sound (size (liveOffers t)) (map (within (liveOffers t)) (trialRows t))
+    rest-rows = rest-sound (trialRows t) (t .shape .offers) (trialRows-sound t acc) L (live-length t) (trialRows t) (trialRows-sound t acc)
 
     pub remaining-rows : rowsOf (rowTotal t) (size (liveOffers t)) (joined (map (within (liveOffers t)) (trialRows t))) ≡ map (within (liveOffers t)) (trialRows t)
-    remaining-rows = ap (λ (m : ℕ). rowsOf m (size L) remainingTable) (sym rest-tall) ∙ rowsOf-joined (size L) rest even
+    remaining-rows = rows-again t acc (size L) rest rest-tall rest-rows
 
     pub remaining-length : length (joined (map (within (liveOffers t)) (trialRows t))) ≡ rowTotal t * size (liveOffers t)
-    remaining-length = joined-length (size L) rest even ∙ ap (λ (m : ℕ). m * size L) rest-tall
+    remaining-length = joined-is t acc (size L) rest rest-tall rest-rows
 
     pub remaining-accepted : t .shape .k ≤ size (liveOffers t) → tableRefusal (joined (map (within (liveOffers t)) (trialRows t))) (rowTotal t) (size (liveOffers t)) (t .shape .k) (t .level .a) (t .level .b) 0 ≡ 0
-    unfolding tableRefusal tableChecks badSizes badValue rowTotal
-    remaining-accepted held =
-        none-first (tableChecks remainingTable (rowTotal t) (size L) (t .shape .k) (t .level .a) (t .level .b) 0) (
-          neither (Rattle.refusals.proofs.Limits.within 1 4096 (rowTotal t) (rowTotal-some t) (omega (arith, acc .laid .rows-most)))
-              (neither (Rattle.refusals.proofs.Limits.within 1 32 (size L) (omega (arith, acc .k-some)) (omega (arith, size-length L, live-length t, acc .offers-most))) (neither (Rattle.refusals.proofs.Limits.within 1 toleranceMost (t .shape .k) (acc .k-some) (acc .k-most)) (le-ltb (size L) (t .shape .k) held))),
-          (acc .level-good, (not-no _ (eq-eqb (length remainingTable) (rowTotal t * size L) remaining-length), (lt-leb (rowTotal t) 0 (rowTotal-some t), (ap not (T-true (all finite remainingTable) (joined-all finite rest (sound-all (size L) rest remaining-sound))), tt)))),
-        )
+    remaining-accepted held = rows-accepted t acc (size L) rest rest-tall rest-rows held (omega (arith, size-length L, live-length t))
 
     pub trial-without : Without (trialRun t) (tableRun (joined (map (within (liveOffers t)) (trialRows t))) (rowTotal t) (size (liveOffers t)) (t .shape .k) (t .level .a) (t .level .b) 0)
     unfolding trialRun tableRun

@@ -2,7 +2,7 @@
 --   count-most, count-few   it is no more than the verdicts, and than those that are looked at
 --   count-on                one verdict more
 --   count-end               past the last verdict nothing is counted
---   count-told              of a run that is answered, it is that of the verdicts that the run tells
+--   count-answered              of a run that is answered, it is that of the verdicts that the run tells
 use Prim.Native.Nat.{ℕ, _+_, _-_, _≤_, _<_}
 use native.Mathlib.Omega.{arith}
 use native.Mathlib.Numerals.{add-one}
@@ -38,9 +38,9 @@ pub count-end : (i n : ℕ) (js : List Decision) → length js ≤ i → i ≤ n
 unfolding rejectedCount
 count-end i n js h k = ap (count (λ (j : Decision). isRejected (j .verdict))) (take-all i js h ∙ sym (take-all n js (omega arith)))
 
-pub count-told : (n : ℕ) (o : Outcome) → length (o .verdicts) ≡ n → rejectedCount n (acceptedRun o .decisions) ≡ count isRejected (o .verdicts)
+pub count-answered : (n : ℕ) (o : Outcome) → length (o .verdicts) ≡ n → rejectedCount n (acceptedRun o .decisions) ≡ count isRejected (o .verdicts)
 unfolding rejectedCount acceptedRun
-count-told n o h =
+count-answered n o h =
     let ds = map decision (o .verdicts) in
     ap (count (λ (d : Decision). isRejected (d .verdict))) (take-at ds (replicate (32 - length ds) (decision (Kept plusZero))) n (length-map (o .verdicts) decision ∙ h))
     ∙ count-map decision (λ d. isRejected (d .verdict)) (o .verdicts)
