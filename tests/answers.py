@@ -118,7 +118,7 @@ def step_text(answer) -> str:
     if isinstance(answer, Refused):
         return line("step", 1, answer.number)
     run, record = answer
-    return line("step", 12, 0, *record_numbers(record), *figures(run))
+    return line("step", 14, 0, *record_numbers(record), *figures(run))
 
 
 def figures(run) -> tuple:
@@ -141,7 +141,7 @@ def run_numbers(answer) -> list:
     else:
         records, verdicts, counts = answer.records, answer.verdicts, answer.counts
         rejected = answer.rejected()
-    places = zip(padded(records, Record(0, 0.0)), padded(verdicts, Kept(0.0)), padded(counts, 0))
+    places = zip(padded(records, Record(0, 0.0, 0, 0)), padded(verdicts, Kept(0.0)), padded(counts, 0))
     return [number_of(answer), len(records), rejected,
             *(number for record, verdict, count in places
               for number in (*record_numbers(record), *verdict_numbers(verdict), count))]
@@ -152,8 +152,8 @@ def padded(places, blank) -> list:
 
 
 def record_numbers(record) -> tuple:
-    """The step and its critical value."""
-    return record.step, value_number(record.critical_value)
+    """The step, its critical value, the row and the offer."""
+    return record.step, value_number(record.critical_value), record.row, record.offer
 
 
 def verdict_numbers(verdict) -> tuple:

@@ -9,6 +9,8 @@ import random
 
 from generators.adjusted import adjusted_cases
 from generators.balanced import balanced_cases, balanced_run_cases
+from generators.bars import (bar_balanced_cases, bar_file_cases, bar_record_cases, bar_table_cases,
+                             bar_walk_cases, further_bar_files, further_bar_tables)
 from generators.examples import example_cases
 from generators.files import file_cases, further_file_cases
 from generators.order import further_order_cases, order_cases
@@ -32,9 +34,15 @@ FAMILIES = {
     "putback": putback_cases,
     "putback_step": putback_step_cases,
     "balanced_run": balanced_run_cases,
+    "bar_file": bar_file_cases,
+    "bar_record": bar_record_cases,
+    "bar_table": bar_table_cases,
+    "bar_walk": bar_walk_cases,
+    "bar_balanced": bar_balanced_cases,
 }
 FURTHER = {"file": further_file_cases, "table": further_table_cases, "order": further_order_cases,
-           "putback": further_putback_cases, "adjusted": adjusted_cases, "balanced": balanced_cases}
+           "putback": further_putback_cases, "adjusted": adjusted_cases, "balanced": balanced_cases,
+           "bar_file": further_bar_files, "bar_table": further_bar_tables}
 EVERY_FAMILY = (*FAMILIES, *(family for family in FURTHER if family not in FAMILIES))
 
 

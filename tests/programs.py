@@ -73,7 +73,8 @@ class Inputs(Program):
     share = 25  # one of so many generated files
 
     def test_generated_files(self):
-        for case in itertools.islice(cases.every_case_of("file"), 0, None, self.share):
+        files = itertools.chain(cases.every_case_of("file"), cases.every_case_of("bar_file"))
+        for case in itertools.islice(files, 0, None, self.share):
             self.assertEqual(self.printed(case.data), self.text(case.data), case.name)
 
     def test_nothing(self):

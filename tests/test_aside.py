@@ -29,16 +29,17 @@ def without(one, offers):
 
 class Examples(unittest.TestCase):
     def test_w_with_a_third_offer(self):
-        self.assertEqual(report_of("w"), "trial 3 3 1 2 8\nstep 1 4\nstep 2 2\n0042 rejected 1 1\n"
+        self.assertEqual(report_of("w"), "trial 3 3 1 2 8\nstep 1 4 4 0042\nstep 2 2 0 7\n0042 rejected 1 1\n"
                                          "7 kept 2 3\n04711 aside 0 0\nend 1\n")
         full = trial.full_run(ASIDE["w"])
         self.assertEqual(full.verdicts, (Rejected(1, 4.0), Kept(2.0), Aside()))
-        self.assertEqual((full.counts, full.records), ((1, 3, 0), (Record(1, 4.0), Record(2, 2.0))))
+        self.assertEqual((full.counts, full.records),
+                         ((1, 3, 0), (Record(1, 4.0, 4, 1), Record(2, 2.0, 0, 2))))
 
     def test_w_balanced(self):
         """In the balanced table the zeros have rank 8 in every row: no offer would be above that."""
         data = trialfile.write(ASIDE["w"])
-        self.assertEqual(balanced.report(data), report_of("w").replace("1 4\nstep 2 2", "1 7\nstep 2 7"))
+        self.assertEqual(balanced.report(data), report_of("w").replace("1 4 4 0042\nstep 2 2", "1 7 6 7\nstep 2 7"))
         full = balanced.trial_run(ASIDE["w"])
         self.assertEqual(full.verdicts, (Rejected(1, 7.0), Kept(7.0), Aside()))
         self.assertEqual(full.counts, (1, 3, 0))
@@ -48,7 +49,7 @@ class Examples(unittest.TestCase):
     def test_no_part_in_any_set(self):
         """W at 7/8 has the critical value -4; with the zeros in the set it would be 0."""
         one = replace(ASIDE["w"], a=7, b=8)
-        self.assertEqual(trial.full_run(one).records, (Record(1, -4.0),))
+        self.assertEqual(trial.full_run(one).records, (Record(1, -4.0, 5, 2),))
         self.assertEqual(ccall.on_file(trialfile.write(one), None), 2)
         handed_in = table.full_run(trial.table_of(one), 8, 3, 1, 7, 8, 0)
         self.assertEqual(handed_in.verdicts, (Rejected(1, 0.0), Rejected(1, 0.0), Kept(0.0)))
@@ -74,19 +75,19 @@ class Examples(unittest.TestCase):
                 self.assertTrue(is_plus_zero(full.verdicts[1].critical_value))
 
     def test_just_k_left(self):
-        self.assertEqual(report_of("k-left"), "trial 3 3 2 2 8\nstep 1 0\n04711 aside 0 0\n"
+        self.assertEqual(report_of("k-left"), "trial 3 3 2 2 8\nstep 1 0 4 7\n04711 aside 0 0\n"
                                               "0042 rejected 1 1\n7 rejected 1 3\nend 2\n")
 
     def test_cancelling_differences(self):
         """A sum of 0 in the observed row sets no offer aside."""
-        self.assertEqual(report_of("cancelling"), "trial 3 3 2 2 8\nstep 1 0\n5 kept 1 6\n"
+        self.assertEqual(report_of("cancelling"), "trial 3 3 2 2 8\nstep 1 0 0 5\n5 kept 1 6\n"
                                                   "04711 aside 0 0\n3 kept 1 5\nend 0\n")
         one = trial.make_trial((7, 8), 1, [("1", (5, -5)), ("2", (0, 0))])
         self.assertEqual(report.report(trialfile.write(one)),
-                         "trial 2 2 1 3 4\nstep 1 -10\n1 rejected 1 3\n2 aside 0 0\nend 1\n")
+                         "trial 2 2 1 3 4\nstep 1 -10 1 1\n1 rejected 1 3\n2 aside 0 0\nend 1\n")
 
     def test_sold_in_one_pair(self):
-        self.assertEqual(report_of("once"), "trial 3 3 1 4 8\nstep 1 1\n1 kept 1 4\n"
+        self.assertEqual(report_of("once"), "trial 3 3 1 4 8\nstep 1 1 0 1\n1 kept 1 4\n"
                                             "04711 aside 0 0\n2 kept 1 8\nend 0\n")
 
     def test_one_pair(self):

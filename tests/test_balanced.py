@@ -18,17 +18,17 @@ class Samples(Balanced, programs.Samples, unittest.TestCase):
     stored = "saffron.trial"  # W's verdicts are the plain ones
 
     def test_w(self):
-        self.assertEqual(self.printed(programs.W), "trial 3 2 1 2 8\nstep 1 7\nstep 2 7\n"
+        self.assertEqual(self.printed(programs.W), "trial 3 2 1 2 8\nstep 1 7 6 7\nstep 2 7 0 7\n"
                                                    "0042 rejected 1 1\n7 kept 2 3\nend 1\n")
 
     def test_aside(self):
         self.assertEqual(self.printed(programs.ASIDE),
-                         "trial 3 3 1 2 8\nstep 1 7\nstep 2 7\n0042 rejected 1 1\n7 kept 2 3\n"
+                         "trial 3 3 1 2 8\nstep 1 7 6 7\nstep 2 7 0 7\n0042 rejected 1 1\n7 kept 2 3\n"
                          "04711 aside 0 0\nend 1\n")
 
     def test_milk_and_saffron(self):
         data = (programs.ROOT / "samples" / "saffron.trial").read_bytes()
-        self.assertEqual(self.printed(data), "trial 3 2 1 2 8\nstep 1 7\nstep 2 6\n"
+        self.assertEqual(self.printed(data), "trial 3 2 1 2 8\nstep 1 7 4 0907\nstep 2 6 0 4011\n"
                                              "4011 kept 2 3\n0907 rejected 1 1\nend 1\n")
 
 

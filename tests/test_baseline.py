@@ -57,9 +57,10 @@ class CTable(Structure):
 class CFullRun(Structure):
     """struct full_run"""
 
-    _fields_ = [("steps", c_size_t), ("critical", c_double * 32), ("step", c_uint8 * 32),
-                ("count", c_size_t * 32), ("rejected", c_size_t), ("sets", c_size_t),
-                ("looks", c_size_t), ("rises", c_size_t)]
+    _fields_ = [("steps", c_size_t), ("critical", c_double * 32), ("row", c_size_t * 32),
+                ("offer", c_size_t * 32), ("step", c_uint8 * 32), ("count", c_size_t * 32),
+                ("rejected", c_size_t), ("sets", c_size_t), ("looks", c_size_t),
+                ("rises", c_size_t)]
 
 
 class CTrial(Structure):
@@ -82,14 +83,17 @@ class CTrial(Structure):
 
 def figures(run: CFullRun):
     """All that a full run of the baseline gives. Values go by their bits: minus zero is not zero."""
-    return ([run.critical[i].hex() for i in range(run.steps)], bytes(run.step), tuple(run.count),
-            run.rejected)
+    return ([run.critical[i].hex() for i in range(run.steps)], list(run.row), list(run.offer),
+            bytes(run.step), tuple(run.count), run.rejected)
 
 
 def expected_figures(answer):
     """The same of the reference."""
     counts = answer.counts + (0,) * (32 - len(answer.counts))
+    blank = [0] * (32 - len(answer.records))
     return ([record.critical_value.hex() for record in answer.records],
+            [record.row for record in answer.records] + blank,
+            [record.offer for record in answer.records] + blank,
             ccall.verdict_bytes(answer).ljust(32, b"\0"), counts, answer.rejected())
 
 
@@ -144,7 +148,8 @@ class Tables(unittest.TestCase):
 
     def test_full_runs(self):
         refused = set()
-        for case in chain(every_table_case(), every_case_of("putback"), middling_cases()):
+        for case in chain(every_table_case(), every_case_of("putback"), every_case_of("bar_table"),
+                          middling_cases()):
             expected_work = [float(MARK)] * case.work_room
             answer = table.full_run(case.values, case.rows, case.columns, case.k, case.a, case.b,
                                     case.observed, expected_work)
@@ -273,7 +278,7 @@ class Files(unittest.TestCase):
             doubling.value = 0
 
     def test_reports(self):
-        for case in every_case_of("file"):
+        for case in chain(every_case_of("file"), every_case_of("bar_file")):
             text = report.report(case.data).encode()
             if text.startswith(b"refused"):
                 self.check_report(case, len(text), None)
@@ -309,7 +314,7 @@ class Records(unittest.TestCase):
         self.assertEqual(refused, {3, 4, 5, 6, 7, 12})
 
     def test_full_runs(self):
-        for case in cases_of("record"):
+        for case in chain(cases_of("record"), cases_of("bar_record")):
             answer, run = full_run(case.trial), CFullRun()
             if isinstance(answer, Refused):
                 continue

@@ -91,7 +91,7 @@ class Calls(unittest.TestCase):
         self.assertEqual(refused, {0, 3, 4, 5, 6, 7, 12})
 
     def test_reports(self):
-        for case in cases_of("file"):
+        for case in chain(cases_of("file"), every_case_of("bar_file")):
             text, written = marked(c_uint8, case.report_room), marked(c_size_t, 1)
             found = library.bench_report(case.data, *sizes(len(case.data)), text,
                                          *sizes(case.report_room), written)
@@ -102,20 +102,24 @@ class Calls(unittest.TestCase):
 
     def test_tables(self):
         refused = set()
-        for case in chain(cases_of("table"), every_case_of("order"), every_case_of("putback")):
+        for case in chain(cases_of("table"), every_case_of("order"), every_case_of("putback"),
+                          every_case_of("bar_table")):
             values = (c_double * max(len(case.values), 1))(*case.values)
             work, expected_work = marked(c_double, case.work_room), [float(MARK)] * case.work_room
             steps, criticals = marked(c_size_t, 1), marked(c_double, 32)
+            bar_rows, bar_offers = marked(c_size_t, 32), marked(c_size_t, 32)
             counts, verdicts = marked(c_size_t, 32), marked(c_size_t, 32)
             found = library.bench_table(
                 values, *sizes(len(case.values), case.rows, case.columns, case.k, case.a, case.b,
                                case.observed), work, *sizes(case.work_room), steps, criticals,
-                counts, verdicts)
+                bar_rows, bar_offers, counts, verdicts)
             answer = table.full_run(case.values, case.rows, case.columns, case.k, case.a, case.b,
                                     case.observed, expected_work)
             self.check(case.name, found, answer, (
                 (work, lambda _: expected_work), (steps, lambda run: [len(run.records)]),
                 (criticals, lambda run: padded([r.critical_value for r in run.records])),
+                (bar_rows, lambda run: padded([r.row for r in run.records])),
+                (bar_offers, lambda run: padded([r.offer for r in run.records])),
                 (counts, lambda run: padded(run.counts)),
                 (verdicts, lambda run: padded(ccall.verdict_bytes(run)))))
             self.assertNotIn("-0.0", map(str, (*criticals, *work)), case.name)

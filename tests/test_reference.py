@@ -20,8 +20,8 @@ W_WORDS = [0x10004004, 0x20010203, 0x3400002A, 0x31000007, 0x40000005, 0x4000000
 W_FILE = trialfile.bytes_of(W_WORDS)
 W = trial.make_trial((1, 4), 1, [("0042", (5, 3, 4)), ("7", (2, -1, 1))])
 W_REPORT = """trial 3 2 1 2 8
-step 1 4
-step 2 2
+step 1 4 4 0042
+step 2 2 0 7
 0042 rejected 1 1
 7 kept 2 3
 end 1
@@ -59,7 +59,7 @@ class StarredExamples(unittest.TestCase):
         full = trial.full_run(W)
         self.assertEqual(full.verdicts, (Rejected(1, 4.0), Kept(2.0)))
         self.assertEqual(full.counts, (1, 3))
-        self.assertEqual(full.records, (Record(1, 4.0), Record(2, 2.0)))
+        self.assertEqual(full.records, (Record(1, 4.0, 4, 1), Record(2, 2.0, 0, 2)))
 
     def test_w_at_one_eighth(self):
         self.assertEqual(method.level_rows(8, 1, 8), 1)
@@ -87,7 +87,7 @@ class StarredExamples(unittest.TestCase):
         self.assertEqual(steps_of(full), [1, 0])
         after, record = run.step(run.begin(8, 2, 2, 1, 9, 0), trial.table_of(W))
         self.assertEqual((after.rejected, after.steps, after.ended), (1, 1, True))
-        self.assertEqual(record, Record(1, 4.0))
+        self.assertEqual(record, Record(1, 4.0, 2, 2))
 
     def test_rows_of_w_as_observed(self):
         values = trial.table_of(W)
@@ -147,7 +147,7 @@ class OtherExamples(unittest.TestCase):
         good = trial.make_trial((1, 2), 1, [("9999999", (1,))])
         self.assertEqual(trialfile.read(trialfile.write(good)), good)
         self.assertEqual(report.report(trialfile.write(good)),
-                         "trial 1 1 1 1 2\nstep 1 -1\n9999999 rejected 1 1\nend 1\n")
+                         "trial 1 1 1 1 2\nstep 1 -1 1 9999999\n9999999 rejected 1 1\nend 1\n")
         beyond = replace(good, codes=(10_000_000,) + good.codes[1:])
         self.assertEqual(trial.full_run(beyond), Refused(5))
 
@@ -406,14 +406,14 @@ class Balanced(unittest.TestCase):
         full = balanced.trial_run(W)
         self.assertEqual(full.verdicts, (Rejected(1, 7.0), Kept(7.0)))
         self.assertEqual((full.counts, critical_values(full)), ((1, 3), [7, 7]))
-        self.assertEqual(balanced.report(W_FILE), W_REPORT.replace("step 1 4\nstep 2 2",
-                                                                   "step 1 7\nstep 2 7"))
+        self.assertEqual(balanced.report(W_FILE), W_REPORT.replace("step 1 4 4 0042\nstep 2 2",
+                                                                   "step 1 7 6 7\nstep 2 7"))
 
     def test_milk_and_saffron(self):
         data = trialfile.write(SAFFRON)
-        self.assertEqual(report.report(data), "trial 3 2 1 2 8\nstep 1 400\n4011 kept 1 3\n"
+        self.assertEqual(report.report(data), "trial 3 2 1 2 8\nstep 1 400 0 4011\n4011 kept 1 3\n"
                                               "0907 kept 1 1\nend 0\n")
-        self.assertEqual(balanced.report(data), "trial 3 2 1 2 8\nstep 1 7\nstep 2 6\n"
+        self.assertEqual(balanced.report(data), "trial 3 2 1 2 8\nstep 1 7 4 0907\nstep 2 6 0 4011\n"
                                                 "4011 kept 2 3\n0907 rejected 1 1\nend 1\n")
         expected = [6, 8, 2, 5, 8, 6, 5, 2, 5, 7, 1, 3, 7, 5, 3, 1]
         self.assertEqual(balanced.table_balanced(trial.table_of(SAFFRON), 8, 2), expected)

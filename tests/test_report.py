@@ -21,7 +21,7 @@ class Report:
 class Samples(Report, programs.Samples, unittest.TestCase):
     def test_aside(self):
         self.assertEqual(self.printed(programs.ASIDE),
-                         "trial 3 3 1 2 8\nstep 1 4\nstep 2 2\n0042 rejected 1 1\n7 kept 2 3\n"
+                         "trial 3 3 1 2 8\nstep 1 4 4 0042\nstep 2 2 0 7\n0042 rejected 1 1\n7 kept 2 3\n"
                          "04711 aside 0 0\nend 1\n")
 
 

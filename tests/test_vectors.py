@@ -62,7 +62,7 @@ class Stored(unittest.TestCase):
                             f"crates/vectors/{name} differs: python3 tests/make_vectors.py")
 
     def test_small(self):
-        self.assertLess(len(self.made["stdin"]) + len(self.made["stdout"]), 1_500_000)
+        self.assertLess(len(self.made["stdin"]) + len(self.made["stdout"]), 1_800_000)
 
     def test_seed(self):
         self.assertTrue(self.made["stdout"].startswith(f"seed {SEED:x}\n".encode()))
@@ -272,8 +272,8 @@ class Covered(unittest.TestCase):
         rejecting = [row for row in range(8)
                      if expected(self.cases[f"example-w-row-{row}"])["full_run"][0].rejected()]
         self.assertEqual(rejecting, [0, 2])
-        self.assertEqual(expected(self.cases["example-aside-w"])["report"][0], b"trial 3 3 1 2 8\nstep 1 4\n"
-                         b"step 2 2\n0042 rejected 1 1\n7 kept 2 3\n04711 aside 0 0\nend 1\n")
+        self.assertEqual(expected(self.cases["example-aside-w"])["report"][0], b"trial 3 3 1 2 8\nstep 1 4 4 0042\n"
+                         b"step 2 2 0 7\n0042 rejected 1 1\n7 kept 2 3\n04711 aside 0 0\nend 1\n")
         self.assertIn("example-aside-BalancedRunCase", self.cases)
         for name in ("p", "one", "zeros"):
             for kind in ("TableCase", "WalkCase"):

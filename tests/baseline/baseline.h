@@ -32,7 +32,7 @@ enum {
     MOST_TRIAL_ROWS = 1 << MOST_PAIRS,
     ASIDE = 255,
     LONGEST_FILE = 652,
-    LONGEST_REPORT = 2633
+    LONGEST_REPORT = 3561
 };
 
 /* A table, the figures of its run, and a work buffer. */
@@ -44,12 +44,14 @@ struct table {
 };
 
 /*
- * What a full run gives. A column's step is the one that rejected it, or 0 where it is kept. An offer of a trial that
- * is set aside has ASIDE there, and the count 0.
+ * What a full run gives. Each step has its critical value, and the row and the offer, counted from 1, that made it
+ * (document 02, section 5). A column's step is the one that rejected it, or 0 where it is kept. An offer of a trial
+ * that is set aside has ASIDE there, and the count 0.
  */
 struct full_run {
     size_t steps;
     double critical[MOST_COLUMNS];
+    size_t row[MOST_COLUMNS], offer[MOST_COLUMNS];
     uint8_t step[MOST_COLUMNS];
     size_t count[MOST_COLUMNS];
     size_t rejected;

@@ -5,7 +5,7 @@
  * Let best be the largest so far: c(K) is above it exactly where more than e rows count, that is, have k columns of K
  * above it. So a row is the mask of its columns above best, a set costs a look at the masks, and c(K) is worked out
  * only where it rises, of the rows that count. Then the rows that still can count are marked anew. A set of columns is
- * a mask too.
+ * a mask too. The row that made the critical value is one of those that could count when it rose last.
  */
 #include <math.h>
 
@@ -25,6 +25,8 @@ struct walk {
     size_t rows;
     uint16_t numbers[MOST_ROWS];
     uint32_t masks[MOST_ROWS];
+    uint32_t set; /* the set whose c(K) was worked out last, and the rows that could count then */
+    uint16_t counted[MOST_ROWS];
 };
 
 /* The masks that a branch of the walk looks at: all, or those of the rows that can count in it. */
@@ -96,6 +98,14 @@ static size_t list_of(uint32_t set, uint8_t list[MOST_COLUMNS])
     return n;
 }
 
+/* The first column of a list with a value, counted from 1. */
+static size_t offer_with(const double *row, const uint8_t *list, double x)
+{
+    while (row[*list] != x)
+        list++;
+    return *list + (size_t)1;
+}
+
 /* ---- a bound from a sample, so that few values are left to select from */
 
 /*
@@ -108,27 +118,34 @@ static double low_bound(double *sample, size_t n, size_t e)
     return above < n ? select_smallest(sample, n, n - above - 1) : -INFINITY;
 }
 
-/* Moves the values above a bound to the front if they are more than e; answers how many are left. */
-static size_t keep_above(double *values, size_t n, double bound, size_t e)
+/* Copies the values above a bound if they are more than e, else all; answers how many these are. */
+static size_t copy_above(const double *values, size_t n, double bound, size_t e, double *copies)
 {
-    size_t above = 0, kept = 0;
+    size_t above = 0, copied = 0;
     for (size_t i = 0; i < n; i++)
         above += values[i] > bound;
     if (above <= e)
-        return n;
+        bound = -INFINITY;
     for (size_t i = 0; i < n; i++) {
         double x = values[i];
-        values[kept] = x;
-        kept += x > bound;
+        copies[copied] = x;
+        copied += x > bound;
     }
-    return kept;
+    return copied;
 }
 
-/* c(K) with k = 1. */
-static double critical_maximum(const struct table *t, uint32_t set, size_t e)
+/* The row and the column of a critical value with k = 1. The work buffer has the rows' maxima. */
+static struct bar bar_of_maxima(const struct table *t, const uint8_t *list, double c)
+{
+    size_t g = row_with(t->work, c);
+    return (struct bar){c, g, offer_with(t->values + g * t->columns, list, c)};
+}
+
+/* A step with k = 1. */
+static struct bar critical_maximum(const struct table *t, uint32_t set, size_t e)
 {
     uint8_t list[MOST_COLUMNS];
-    double sample[MOST_SAMPLED];
+    double sample[MOST_SAMPLED], copies[MOST_ROWS];
     size_t n = list_of(set, list), g = 0, sampled = 0;
     for (; g + ABREAST <= t->rows; g += ABREAST)
         maxima(t->values + g * t->columns, t->columns, list, n, ABREAST, t->work + g);
@@ -136,8 +153,8 @@ static double critical_maximum(const struct table *t, uint32_t set, size_t e)
         maxima(t->values + g * t->columns, t->columns, list, n, 1, t->work + g);
     for (g = 0; g < t->rows; g += SPARSE)
         sample[sampled++] = t->work[g];
-    size_t left = keep_above(t->work, t->rows, low_bound(sample, sampled, e), e);
-    return plus_zero(select_smallest(t->work, left, left - e - 1));
+    size_t left = copy_above(t->work, t->rows, low_bound(sample, sampled, e), e, copies);
+    return bar_of_maxima(t, list, plus_zero(select_smallest(copies, left, left - e - 1)));
 }
 
 /* ---- masks */
@@ -203,16 +220,43 @@ static uint32_t rows_with(const struct walk *w, struct masks m, uint32_t set, si
 /* ---- critical values */
 
 /* c(K) of a set for which more than e rows count. */
-static double critical_value(const struct walk *w, uint32_t set)
+static double critical_value(struct walk *w, uint32_t set)
 {
     const struct table *t = w->table;
     uint8_t list[MOST_COLUMNS];
     size_t columns = list_of(set, list), n = 0;
+    w->set = set;
+    memcpy(w->counted, w->numbers, w->rows * sizeof w->numbers[0]);
     for (size_t i = 0; i < w->rows; i++)
         if (without_lowest(w->masks[i] & set, t->k - 1) != 0)
             t->work[n++] = k_max(t->values + w->numbers[i] * t->columns, list, columns, t->k);
     w->run->rises++;
     return plus_zero(select_smallest(t->work, n, n - w->e - 1));
+}
+
+/*
+ * Whether a row has a value, in whatever column: only then its k-max can be that. A choice of words as wide as the
+ * values, and no way out of the loop, so that gcc makes vectors of it.
+ */
+static inline int has_value(const double *row, size_t columns, double x)
+{
+    int64_t found = 0;
+    for (size_t j = 0; j < columns; j++)
+        found = row[j] == x ? 1 : found;
+    return found != 0;
+}
+
+/* The row and the column of a critical value, which is that of the set worked out last. */
+static struct bar bar_of(const struct walk *w, double c)
+{
+    const struct table *t = w->table;
+    const uint16_t *g = w->counted;
+    const double *row = t->values + *g * t->columns;
+    uint8_t list[MOST_COLUMNS];
+    size_t columns = list_of(w->set, list);
+    while (!has_value(row, t->columns, c) || k_max(row, list, columns, t->k) != c)
+        row = t->values + *++g * t->columns;
+    return (struct bar){c, *g, offer_with(row, list, c)};
 }
 
 /* Marks all rows at a value below c(K) of the first set: at a bound from a sample, or else at minus infinity. */
@@ -340,7 +384,7 @@ static uint32_t with_lowest(uint32_t set, uint32_t others, size_t more)
     return set;
 }
 
-static double next_critical_value(const struct table *t, struct full_run *run)
+static struct bar next_critical_value(const struct table *t, struct full_run *run)
 {
     struct walk w;
     size_t more = run->steps == 0 ? 0 : t->k - 1;
@@ -356,9 +400,9 @@ static double next_critical_value(const struct table *t, struct full_run *run)
         return critical_maximum(t, w.kept, w.e);
     begin(&w, with_lowest(w.kept, rejected, more));
     if (more == 0)
-        return critical_value(&w, w.kept);
+        return bar_of(&w, critical_value(&w, w.kept));
     put_back(&w, all_masks(&w), w.kept, rejected, more);
-    return w.best;
+    return bar_of(&w, w.best);
 }
 
 int run_by_masks(const struct table *t, struct full_run *run)

@@ -19,6 +19,13 @@ __attribute__((format(printf, 2, 3))) static void add(struct text *text, const c
     va_end(values);
 }
 
+static void add_step(struct text *text, const struct trial *t, const struct full_run *run, size_t i)
+{
+    size_t offer = run->offer[i] - 1;
+    add(text, "step %zu %lld %zu %0*u\n", i + 1, (long long)run->critical[i], run->row[i], t->digits[offer],
+        t->codes[offer]);
+}
+
 static void add_offer(struct text *text, const struct trial *t, const struct full_run *run, size_t i)
 {
     size_t step = run->step[i] == ASIDE ? 0 : run->step[i] != 0 ? run->step[i] : run->steps;
@@ -31,7 +38,7 @@ static void add_run(struct text *text, const struct trial *t, const struct full_
     size_t rows = (size_t)1 << t->pairs;
     add(text, "trial %zu %zu %zu %zu %zu\n", t->pairs, t->offers, t->k, allowance(rows, t->a, t->b), rows);
     for (size_t i = 0; i < run->steps; i++)
-        add(text, "step %zu %lld\n", i + 1, (long long)run->critical[i]);
+        add_step(text, t, run, i);
     for (size_t i = 0; i < t->offers; i++)
         add_offer(text, t, run, i);
     add(text, "end %zu\n", run->rejected);

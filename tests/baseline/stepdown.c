@@ -49,38 +49,59 @@ static double k_max(const double *row, const uint8_t *set, size_t n, size_t k)
     return top[k - 1];
 }
 
-/* c(K): the (M - e)-th smallest k-max over the n columns of a set. */
+/* c(K): the (M - e)-th smallest k-max over the n columns of a set. The work buffer keeps the k-maxes, row by row. */
 static double critical_value(const struct table *t, const uint8_t *set, size_t n)
 {
+    double k_maxes[MOST_ROWS];
     size_t e = allowance(t->rows, t->a, t->b);
     for (size_t g = 0; g < t->rows; g++)
-        t->work[g] = k_max(t->values + g * t->columns, set, n, t->k);
-    return plus_zero(select_smallest(t->work, t->rows, t->rows - e - 1));
+        t->work[g] = k_maxes[g] = k_max(t->values + g * t->columns, set, n, t->k);
+    return plus_zero(select_smallest(k_maxes, t->rows, t->rows - e - 1));
+}
+
+/* The lowest column of a set with a value, counted from 1. */
+static size_t offer_with(const double *row, const uint8_t *set, size_t n, double x)
+{
+    size_t lowest = MOST_COLUMNS;
+    for (size_t i = 0; i < n; i++)
+        if (row[set[i]] == x && set[i] < lowest)
+            lowest = set[i];
+    return lowest + 1;
+}
+
+/* Raises `best` to c(K) where that is above it. */
+static void raise(const struct table *t, const uint8_t *set, size_t n, struct bar *best)
+{
+    double c = critical_value(t, set, n);
+    if (c <= best->critical)
+        return;
+    size_t g = row_with(t->work, c);
+    *best = (struct bar){c, g, offer_with(t->values + g * t->columns, set, n, c)};
 }
 
 /*
- * The largest of `best` and the critical values of the set, of n columns, with each choice of `more` of the rejected
- * columns: one is chosen and then, with one fewer to choose, later ones.
+ * Raises `best` to the critical values of the set, of n columns, with each choice of `more` of the rejected columns: one
+ * is chosen and then, with one fewer to choose, later ones.
  */
-static double put_back(const struct table *t, struct full_run *run, uint8_t *set, size_t n, const uint8_t *rejected,
-                       size_t left, size_t more, double best)
+static void put_back(const struct table *t, struct full_run *run, uint8_t *set, size_t n, const uint8_t *rejected,
+                     size_t left, size_t more, struct bar *best)
 {
     if (more == 0) {
         run->sets++;
-        double c = critical_value(t, set, n);
-        return c > best ? c : best;
+        raise(t, set, n, best);
+        return;
     }
     for (size_t i = 0; i + more <= left; i++) {
         set[n] = rejected[i];
-        best = put_back(t, run, set, n + 1, rejected + i + 1, left - i - 1, more - 1, best);
+        put_back(t, run, set, n + 1, rejected + i + 1, left - i - 1, more - 1, best);
     }
-    return best;
 }
 
-/* The critical value of the next step. Before step 1 nothing is rejected, and nothing is put back. */
-static double next_critical_value(const struct table *t, struct full_run *run)
+/* The next step. Before step 1 nothing is rejected, and nothing is put back. */
+static struct bar next_critical_value(const struct table *t, struct full_run *run)
 {
     uint8_t set[MOST_COLUMNS] = {0}, rejected[MOST_COLUMNS] = {0};
+    struct bar best = {.critical = -INFINITY};
     size_t kept = 0, gone = 0;
     for (size_t j = 0; j < t->columns; j++) {
         if (run->step[j] == 0)
@@ -88,7 +109,8 @@ static double next_critical_value(const struct table *t, struct full_run *run)
         else
             rejected[gone++] = (uint8_t)j;
     }
-    return put_back(t, run, set, kept, rejected, gone, run->steps == 0 ? 0 : t->k - 1, -INFINITY);
+    put_back(t, run, set, kept, rejected, gone, run->steps == 0 ? 0 : t->k - 1, &best);
+    return best;
 }
 
 int run_table(const struct table *t, struct full_run *run)

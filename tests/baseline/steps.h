@@ -9,8 +9,17 @@
 
 #include "baseline.h"
 
-/* How the critical value of the next step is found. */
-typedef double (*next_critical)(const struct table *table, struct full_run *run);
+/*
+ * What a step finds: its critical value; the lowest row whose k-max over the first set that gives it is that value; and
+ * in that row the lowest column of the set with that value, counted from 1.
+ */
+struct bar {
+    double critical;
+    size_t row, offer;
+};
+
+/* How that of the next step is found. */
+typedef struct bar (*next_bar)(const struct table *table, struct full_run *run);
 
 /* Plus zero for either zero. */
 static inline double plus_zero(double x)
@@ -53,15 +62,26 @@ static inline double select_smallest(double *v, size_t n, size_t m)
     return v[want];
 }
 
+/* The lowest row with that k-max, which some row has. */
+static inline size_t row_with(const double *k_maxes, double c)
+{
+    size_t g = 0;
+    while (k_maxes[g] != c)
+        g++;
+    return g;
+}
+
 /* One step; answers whether the run goes on. */
-static inline int step(const struct table *t, struct full_run *run, next_critical next)
+static inline int step(const struct table *t, struct full_run *run, next_bar next)
 {
     const double *seen = t->values + t->observed * t->columns;
-    double c = next(t, run);
+    struct bar bar = next(t, run);
     size_t before = run->rejected;
-    run->critical[run->steps++] = c;
+    run->critical[run->steps] = bar.critical;
+    run->row[run->steps] = bar.row;
+    run->offer[run->steps++] = bar.offer;
     for (size_t j = 0; j < t->columns; j++) {
-        if (run->step[j] == 0 && seen[j] > c) {
+        if (run->step[j] == 0 && seen[j] > bar.critical) {
             run->step[j] = (uint8_t)run->steps;
             run->rejected++;
         }
@@ -73,12 +93,15 @@ static inline int step(const struct table *t, struct full_run *run, next_critica
 static inline void count_rows(const struct table *t, struct full_run *run)
 {
     const double *seen = t->values + t->observed * t->columns;
-    for (size_t g = 0; g < t->rows; g++)
+    size_t *count = run->count;
+    for (size_t g = 0; g < t->rows; g++) {
+        const double *row = t->values + g * t->columns;
         for (size_t j = 0; j < t->columns; j++)
-            run->count[j] += t->values[g * t->columns + j] >= seen[j];
+            count[j] += row[j] >= seen[j];
+    }
 }
 
-static inline int run_by(const struct table *t, struct full_run *run, next_critical next)
+static inline int run_by(const struct table *t, struct full_run *run, next_bar next)
 {
     if (!good_level(t->a, t->b) || !good_table(t))
         return 0;

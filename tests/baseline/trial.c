@@ -107,7 +107,10 @@ static void run_without_steps(const struct table *t, struct full_run *run)
     count_rows(t, run);
 }
 
-/* Moves the answers of the offers that remain to their places, from the last one on, so that none is lost. */
+/*
+ * Moves the answers of the offers that remain to their places, from the last one on, so that none is lost; a step's
+ * offer has its position among all.
+ */
 static void spread(const struct rest *rest, size_t offers, struct full_run *run)
 {
     size_t left = rest->offers;
@@ -117,6 +120,8 @@ static void spread(const struct rest *rest, size_t offers, struct full_run *run)
         run->step[i] = remains ? run->step[left] : ASIDE;
         run->count[i] = remains ? run->count[left] : 0;
     }
+    for (size_t i = 0; i < run->steps; i++)
+        run->offer[i] = rest->numbers[run->offer[i] - 1] + (size_t)1;
 }
 
 void run_trial(const struct trial *t, struct full_run *run)

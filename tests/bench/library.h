@@ -22,9 +22,10 @@ uint32_t bench_write(const size_t figures[FIGURES], const uint32_t codes[MOST_OF
 /* `written` is the length of the text. */
 uint32_t bench_report(const uint8_t *file, size_t file_len, uint8_t *text, size_t text_len, size_t *written);
 
-/* The verdict of a column is the step that rejected it, or 0. */
+/* The verdict of a column is the step that rejected it, or 0. Rows and offers are those of the steps, offers from 1. */
 uint32_t bench_table(const double *table, size_t table_len, size_t rows, size_t columns, size_t k, size_t a, size_t b,
                      size_t observed, double *work, size_t work_len, size_t *steps, double criticals[MOST_COLUMNS],
+                     size_t bar_rows[MOST_COLUMNS], size_t bar_offers[MOST_COLUMNS],
                      size_t counts[MOST_COLUMNS], size_t verdicts[MOST_COLUMNS]);
 
 #endif

@@ -281,7 +281,7 @@ static void run_of_library(const struct task *task, const struct table *t, struc
 {
     size_t verdicts[MOST_COLUMNS];
     uint32_t refusal = bench_table(t->values, t->length, t->rows, t->columns, t->k, t->a, t->b, t->observed, t->work,
-                                   t->places, &run->steps, run->critical, run->count, verdicts);
+                                   t->places, &run->steps, run->critical, run->row, run->offer, run->count, verdicts);
     same(refusal == 0, task, "the library refuses the table");
     for (size_t j = 0; j < MOST_COLUMNS; j++) {
         run->step[j] = (uint8_t)verdicts[j];
@@ -293,6 +293,8 @@ static void compare_runs(const struct task *task, const struct full_run *x, cons
 {
     same(x->steps == y->steps, task, "steps differ");
     same(memcmp(x->critical, y->critical, sizeof x->critical) == 0, task, "critical values differ");
+    same(memcmp(x->row, y->row, sizeof x->row) == 0, task, "rows of critical values differ");
+    same(memcmp(x->offer, y->offer, sizeof x->offer) == 0, task, "offers of critical values differ");
     same(memcmp(x->count, y->count, sizeof x->count) == 0, task, "counts differ");
     same(memcmp(x->step, y->step, sizeof x->step) == 0, task, "verdicts differ");
 }

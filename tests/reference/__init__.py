@@ -4,7 +4,7 @@ Written from the paper alone, and from document 02 where it asks for more, for c
 another implementation.
 
 refusals.py   the refusal numbers and the conditions that several calls share
-method.py     e, k-max, c(K), put-back sets, one step, the stopping rule, counts
+method.py     e, k-max and its offer, c(K), put-back sets, a step's record, the stopping rule, counts
 table.py      a lent table: its refusals and its full run
 run.py        a run taken step by step: begin, step, the clauses of refusal 14
 trial.py      the trial record: its refusals, its table, its full run

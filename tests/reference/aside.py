@@ -1,8 +1,11 @@
 """Offers that never sold (document 02, §4): set aside before step 1.
 
 Their columns are taken out of the trial's table, the method goes over the smaller table, and its answers
-go back to their places in file order. Tables that are handed in know nothing of this.
+go back to their places in file order; so do the offers that the records name (§5). Tables that are handed
+in know nothing of this.
 """
+
+from dataclasses import replace
 
 from . import method
 from .table import Aside, FullRun, Kept
@@ -25,6 +28,11 @@ def in_file_order(answers, left, offers: int, aside) -> tuple:
     return tuple(placed.get(i, aside) for i in range(offers))
 
 
+def in_trial(records, left) -> tuple:
+    """The records with the offers' positions in the trial."""
+    return tuple(replace(record, offer=left[record.offer - 1] + 1) for record in records)
+
+
 def without_steps(table) -> FullRun:
     """Fewer than k offers remain: no step is run, and each is kept with plus zero as critical value."""
     return FullRun(verdicts=(Kept(0.0),) * len(table),
@@ -42,4 +50,4 @@ def full_run(values, columns: int, left, k: int, a: int, b: int, run_of=run_tabl
     else:
         run = run_of(smaller, rows, len(left), k, a, b, 0)
     return FullRun(verdicts=in_file_order(run.verdicts, left, columns, Aside()),
-                   counts=in_file_order(run.counts, left, columns, 0), records=run.records)
+                   counts=in_file_order(run.counts, left, columns, 0), records=in_trial(run.records, left))

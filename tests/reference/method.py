@@ -1,4 +1,4 @@
-"""The method (document 01, "The method"), for values already accepted.
+"""The method (document 01, "The method"; document 02, §5), for values already accepted.
 
 A table is given as the list of its columns, each a list of M values. Offers
 are column numbers from 0. Nothing here refuses; see table.py and run.py.
@@ -10,10 +10,15 @@ from itertools import combinations
 
 @dataclass(frozen=True)
 class Record:
-    """What a step leaves: its number (from 1) and its critical value."""
+    """What a step leaves: its number (from 1), its critical value, and whose figures made that.
+
+    `row` counts from 0; `offer` is a position in the trial or table, from 1.
+    """
 
     step: int
     critical_value: float
+    row: int
+    offer: int
 
 
 def level_rows(rows: int, a: int, b: int) -> int:
@@ -53,15 +58,36 @@ def put_back_sets(rejected, k: int) -> list:
     return list(combinations(sorted(rejected), k - 1))
 
 
-def critical_value(table, rejected, k: int, e: int) -> float:
-    """The critical value of the next step, with the offers rejected so far.
+def sets_of_step(table, rejected, k: int) -> list:
+    """The sets K of the next step, in the order of the walk, with the offers rejected so far.
 
     Nothing is rejected before step 1 alone: a run goes on only with k or more rejected.
     """
     left = [j for j in range(len(table)) if j not in rejected]
     if not rejected:
-        return c(table, left, k, e)
-    return max(c(table, left + list(back), k, e) for back in put_back_sets(rejected, k))
+        return [left]
+    return [left + list(back) for back in put_back_sets(rejected, k)]
+
+
+def offer_of_k_max(row, offers, k: int) -> int:
+    """Whose value the k-th largest over the set is: the lowest position in the set among equals."""
+    largest = k_max([row[j] for j in offers], k)
+    return min(j for j in offers if row[j] == largest)
+
+
+def lowest_row(table, offers, k: int, value: float) -> int:
+    """The lowest row whose k-max over the set equals the value."""
+    return min(g for g, row in enumerate(zip(*table)) if k_max([row[j] for j in offers], k) == value)
+
+
+def record(table, rejected, k: int, e: int, step: int) -> Record:
+    """The record of the next step, with the offers rejected so far: of the first set that gives the largest c."""
+    sets = sets_of_step(table, rejected, k)
+    values = [c(table, offers, k, e) for offers in sets]
+    critical = max(values)
+    first = sets[values.index(critical)]
+    row = lowest_row(table, first, k, critical)
+    return Record(step, critical, row, offer_of_k_max([column[row] for column in table], first, k) + 1)
 
 
 def newly_rejected(table, rejected, observed: int, critical: float) -> set:

@@ -1,4 +1,4 @@
-"""The report program's text (document 01, "Report and C call"; document 02, §4)."""
+"""The report program's text (document 01, "Report and C call"; document 02, §4 and §5)."""
 
 from .method import level_rows
 from .refusals import Refused, fill, too_short
@@ -30,12 +30,18 @@ def report_lines(trial: Trial, run: FullRun) -> list:
     e = level_rows(rows, trial.a, trial.b)
     lines = [f"trial {trial.pairs} {trial.offers} {trial.k} {e} {rows}"]
     for record in run.records:
-        lines.append(f"step {record.step} {int(record.critical_value)}")
+        code = printed_code(trial, record.offer - 1)
+        lines.append(f"step {record.step} {int(record.critical_value)} {record.row} {code}")
     for i, verdict in enumerate(run.verdicts):
-        code = str(trial.codes[i]).zfill(trial.digits[i])
-        lines.append(f"{code} {verdict_words(verdict, len(run.records))} {run.counts[i]}")
+        words = verdict_words(verdict, len(run.records))
+        lines.append(f"{printed_code(trial, i)} {words} {run.counts[i]}")
     lines.append(f"end {run.rejected()}")
     return lines
+
+
+def printed_code(trial: Trial, i: int) -> str:
+    """The code of an offer (from 0) with its leading zeros."""
+    return str(trial.codes[i]).zfill(trial.digits[i])
 
 
 def verdict_words(verdict, steps: int) -> str:

@@ -4,7 +4,6 @@ from dataclasses import dataclass, replace
 from math import isfinite
 
 from . import method
-from .method import Record
 from .refusals import MAX_STEPS, Refused, breaks_3, fill, table_breaks_4, too_short
 
 
@@ -87,13 +86,13 @@ def step(run: Run, values, work=None):
     table = method.columns_of(values, run.columns)
     before = {j for j in range(run.columns) if run.rejected >> j & 1}
     e = method.level_rows(run.rows, run.a, run.b)
-    critical = method.critical_value(table, before, run.k, e)
-    newly = method.newly_rejected(table, before, run.observed, critical)
+    record = method.record(table, before, run.k, e, run.steps + 1)
+    newly = method.newly_rejected(table, before, run.observed, record.critical_value)
     after = before | newly
     next_run = replace(
         run,
         rejected=sum(1 << j for j in after),
-        steps=run.steps + 1,
+        steps=record.step,
         ended=method.has_ended(newly, after, run.k, run.columns),
     )
-    return next_run, Record(next_run.steps, critical)
+    return next_run, record

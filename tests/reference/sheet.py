@@ -2,6 +2,7 @@
 
 from .adjusted import trial_figures
 from .refusals import Refused
+from .report import printed_code
 from .trial import rows_of
 from .trialfile import read
 
@@ -14,6 +15,5 @@ def sheet(data: bytes) -> str:
     trial = read(data)
     if isinstance(trial, Refused):
         return f"refused {trial.number}\n"
-    lines = [f"{str(trial.codes[i]).zfill(trial.digits[i])} {figure}\n"
-             for i, figure in enumerate(trial_figures(trial))]
+    lines = [f"{printed_code(trial, i)} {figure}\n" for i, figure in enumerate(trial_figures(trial))]
     return "".join(lines) + f"end {rows_of(trial)}\n"

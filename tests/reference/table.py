@@ -4,7 +4,6 @@ from dataclasses import dataclass
 from math import isfinite
 
 from . import method
-from .method import Record
 from .refusals import Refused, breaks_3, fill, table_breaks_4, too_short
 
 
@@ -75,11 +74,11 @@ def run_table(table, k: int, e: int, observed: int) -> FullRun:
     """The method from step 1 to its end, for an accepted table given by its columns."""
     rejected, verdicts, records, ended = set(), {}, [], False
     while not ended:
-        critical = method.critical_value(table, rejected, k, e)
-        newly = method.newly_rejected(table, rejected, observed, critical)
-        records.append(Record(len(records) + 1, critical))
+        record = method.record(table, rejected, k, e, len(records) + 1)
+        newly = method.newly_rejected(table, rejected, observed, record.critical_value)
+        records.append(record)
         for j in newly:
-            verdicts[j] = Rejected(len(records), critical)
+            verdicts[j] = Rejected(record.step, record.critical_value)
         rejected |= newly
         ended = method.has_ended(newly, rejected, k, len(table))
     kept = Kept(records[-1].critical_value)

@@ -3,8 +3,9 @@
 --   figuresOf t              a, b, k, offers and pairs of a trial
 --   codesOf t, digitsOf t, differencesOf t     its arrays
 --   trialFrom fs codes digits differences      the trial of these figures and arrays
---   criticalOfRecord m, byteOfDecision d       the critical value of a record; the number that tells a verdict
---   stepsIn f, criticalsIn f, countsIn f, verdictsOf f     parts of a full run: how many steps, critical values, counts, verdicts as numbers
+--   loggedIn ms, byteOfDecision d              records, field by field; the number that tells a verdict
+--   stepsIn f, criticalsIn f, barRowsIn f, barOffersIn f, countsIn f, verdictsOf f     parts of a full run: how many steps, critical values, the rows and the
+--                                              offers that set them, counts, verdicts as numbers
 --   fromFile part bytes old              a place after `bench_read`: a part of the file's trial
 --   lengthWritten t places old           the length's place after `bench_write` into so many bytes
 --   lengthRendered bytes places old      the length's place after `bench_report` into so many bytes
@@ -30,6 +31,7 @@ use Rattle.trialfile.specs.Files.{trialOf, fileChecks}
 use Rattle.trialwriter.specs.Writings.{writeChecks, fileLength}
 use Rattle.rendering.specs.Reports.{reportOf}
 use Rattle.rendering.specs.Renderings.{renderChecks}
+use Rattle.benchcalls.specs.declared.Logged.{Logged}
 
 -- ---- a trial in parts
 
@@ -55,8 +57,8 @@ trialFrom fs codes digits differences = record {
 
 -- ---- a full run in parts
 
-abbrev pub criticalOfRecord : Record → Float
-criticalOfRecord m = m .critical
+abbrev pub loggedIn : List Record → Logged
+loggedIn ms = record { criticals = map (λ m. m .critical) ms; rows = map (λ m. m .row) ms; offers = map (λ m. m .offer) ms }
 
 abbrev pub byteOfDecision : Decision → ℕ
 byteOfDecision d = verdictByte (d .verdict)
@@ -65,7 +67,13 @@ abbrev pub stepsIn : FullRun → ℕ
 stepsIn f = f .steps
 
 abbrev pub criticalsIn : FullRun → List Float
-criticalsIn f = map criticalOfRecord (f .records)
+criticalsIn f = loggedIn (f .records) .criticals
+
+abbrev pub barRowsIn : FullRun → List ℕ
+barRowsIn f = loggedIn (f .records) .rows
+
+abbrev pub barOffersIn : FullRun → List ℕ
+barOffersIn f = loggedIn (f .records) .offers
 
 abbrev pub countsIn : FullRun → List ℕ
 countsIn f = f .counts

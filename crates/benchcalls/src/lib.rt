@@ -17,7 +17,7 @@ ghost use Rattle.stepdown.specs.Answers.{fullWork};
 ghost use Rattle.trialfile.specs.Files.{fileRefusal};
 ghost use Rattle.trialwriter.specs.Writings.{writeRefusal, afterWriting};
 ghost use Rattle.rendering.specs.Renderings.{renderRefusal, afterRendering};
-ghost use Rattle.benchcalls.specs.Calls.{figuresOf, codesOf, digitsOf, differencesOf, trialFrom, criticalOfRecord, byteOfDecision, stepsIn, criticalsIn, countsIn, verdictsOf, fromFile, lengthWritten, lengthRendered, fromTable};
+ghost use Rattle.benchcalls.specs.Calls.{figuresOf, codesOf, digitsOf, differencesOf, trialFrom, loggedIn, byteOfDecision, stepsIn, criticalsIn, barRowsIn, barOffersIn, countsIn, verdictsOf, fromFile, lengthWritten, lengthRendered, fromTable};
 
 // The parts of a trial into arrays, the first one a, b, k, offers and pairs.
 fn take_apart(
@@ -131,18 +131,32 @@ pub extern "C" fn bench_report(file: &[u8], text: &mut [u8], written: &mut usize
     rendering.refusal
 }
 
-// The critical values of records.
-fn criticals_of(records: [Record; 32]) -> [f64; 32]
-    ensures { λ r. ⌜ r ≡ map criticalOfRecord records ⌝ }
+// The records of a full run, field by field.
+pub struct Logged {
+    pub criticals: [f64; 32],
+    pub rows: [usize; 32],
+    pub offers: [usize; 32],
+}
+
+fn logged_in(records: [Record; 32]) -> Logged
+    ensures { λ r. ⌜ r ≡ loggedIn records ⌝ }
 {
     let mut criticals = [0.0f64; 32];
+    let mut rows = [0usize; 32];
+    let mut offers = [0usize; 32];
     let mut i: usize = 0;
     while i < 32 {
         let r = records[i];
         criticals[i] = r.critical;
+        rows[i] = r.row;
+        offers[i] = r.offer;
         i += 1;
     }
-    criticals
+    Logged {
+        criticals,
+        rows,
+        offers,
+    }
 }
 
 // The numbers that tell verdicts: the rejecting step, 0 for kept. (No column of a table is set aside.)
@@ -161,7 +175,7 @@ fn bytes_of(decisions: [Decision; 32]) -> [usize; 32]
     bytes
 }
 
-// The full run of a table: how many steps, the critical value of each, and for each column the count and the verdict, which is the rejecting step or 0.
+// The full run of a table: how many steps, the critical value of each and the row and the offer that set it, and for each column the count and the verdict, which is the rejecting step or 0.
 #[no_mangle]
 pub extern "C" fn bench_table(
     table: &[f64],
@@ -174,6 +188,8 @@ pub extern "C" fn bench_table(
     work: &mut [f64],
     steps: &mut usize,
     criticals: &mut [f64; 32],
+    barrows: &mut [usize; 32],
+    baroffers: &mut [usize; 32],
     counts: &mut [usize; 32],
     verdicts: &mut [usize; 32],
 ) -> u32
@@ -181,6 +197,8 @@ pub extern "C" fn bench_table(
     ensures { λ r. ⌜ now (work .exit) ≡ fullWork (now (table .entry)) rows columns k a b observed (now (work .entry)) ⌝ }
     ensures { λ r. ⌜ now (steps .exit) ≡ fromTable stepsIn (now (table .entry)) rows columns k a b observed (length (now (work .entry))) (now (steps .entry)) ⌝ }
     ensures { λ r. ⌜ now (criticals .exit) ≡ fromTable criticalsIn (now (table .entry)) rows columns k a b observed (length (now (work .entry))) (now (criticals .entry)) ⌝ }
+    ensures { λ r. ⌜ now (barrows .exit) ≡ fromTable barRowsIn (now (table .entry)) rows columns k a b observed (length (now (work .entry))) (now (barrows .entry)) ⌝ }
+    ensures { λ r. ⌜ now (baroffers .exit) ≡ fromTable barOffersIn (now (table .entry)) rows columns k a b observed (length (now (work .entry))) (now (baroffers .entry)) ⌝ }
     ensures { λ r. ⌜ now (counts .exit) ≡ fromTable countsIn (now (table .entry)) rows columns k a b observed (length (now (work .entry))) (now (counts .entry)) ⌝ }
     ensures { λ r. ⌜ now (verdicts .exit) ≡ fromTable verdictsOf (now (table .entry)) rows columns k a b observed (length (now (work .entry))) (now (verdicts .entry)) ⌝ }
 {
@@ -188,8 +206,13 @@ pub extern "C" fn bench_table(
     if run.refusal == 0 {
         *steps = run.steps;
         let records = run.records;
-        let c = criticals_of(records);
+        let logged = logged_in(records);
+        let c = logged.criticals;
         *criticals = c;
+        let g = logged.rows;
+        *barrows = g;
+        let o = logged.offers;
+        *baroffers = o;
         let n = run.counts;
         *counts = n;
         let decisions = run.decisions;

@@ -2,7 +2,7 @@
 -- A contract says that a public function answers what a definition gives, for every input; the theorems are about those definitions.
 -- Every call is `answer checks accepted refused`, and every lent buffer `afterwards checks new old` (refusals/specs/Answers.antt): Calls.antt
 -- beside this page lists them, with the stated orders. docs/CLAIMS.md maps every sentence of document 01, and of the requests, to what keeps it.
-use Prim.Native.Nat.{ℕ, _+_, _*_, _-_, _^_, _≤_, _<_}
+use Prim.Native.Nat.{ℕ, suc, _+_, _*_, _-_, _^_, _≤_, _<_}
 use mathlib.Core.Path.{_≡_, refl, _∙_}
 use mathlib.Core.Bool.{Bool, true, false}
 use mathlib.Core.List.{List, [], _∷_, map}
@@ -24,24 +24,29 @@ use Rattle.refusals.specs.Answers.{Checks, First, firstRefusal, afterwards}
 use Rattle.refusals.specs.Limits.{allowance}
 use Rattle.refusals.specs.Buffers.{written, cleared}
 use Rattle.refusals.proofs.Answers.{Answered, answered, none-holds}
-use Rattle.columns.specs.Columns.{size, within, everyColumn}
+use Rattle.columns.specs.Columns.{Columns, size, _∪_, _∖_, within, choose, everyColumn}
 use Rattle.method.specs.Method.{atLeast}
-use Rattle.runs.specs.Stepdown.{rejectedSet, leftOver, newlyRejected, fullRun}
+use Rattle.runs.specs.Stepdown.{liveSet, rejectedSet, leftOver, stepSets, newlyRejected, fullRun}
 use Rattle.runs.specs.FullRuns.{acceptedRun, refusedRun, verdictsIn, isRejected, isAside}
+use Rattle.runs.specs.SetBy.{SetBy, RecordSetBy}
+use Rattle.runs.specs.declared.FullRun.{FullRun}
+use Rattle.runs.specs.declared.Record.{Record}
 use Rattle.runs.specs.declared.Verdict.{Verdict}
 use Rattle.runs.specs.declared.Verdict.the-variants.{Kept}
-use Rattle.runs.specs.Tables.{tableRun}
+use Rattle.runs.specs.Tables.{tableStart, tableRun}
 use Rattle.runs.specs.Examples.{examples}
-use Rattle.runs.proofs.Examples.{all-examples}
+use Rattle.runs.specs.Examples as ties
+use Rattle.runs.proofs.Examples.{all-examples, all-bars}
 use Rattle.runs.proofs.Told as told
 use Rattle.verdicts.specs.Verdicts.{verdictByte, rejectedCount}
 use Rattle.verdicts.proofs.Bytes.{Tells, run-tells}
-use Rattle.stepdown.specs.Runs.{begun, stateOf, nextRun}
+use Rattle.stepdown.specs.Runs.{begun, stateOf, nextRun, stepRecord}
 use Rattle.stepdown.specs.Refusals.{tableRefusal, tableRunChecks, tableRunRefusal, stepRefusal}
 use Rattle.stepdown.specs.Answers.{fullAnswer, fullWork}
 use Rattle.stepdown.specs.Stepping.{stepped, steppedRecords, lastRun}
 use Rattle.stepdown.specs.declared.Run.{Run}
 use Rattle.stepdown.proofs.Accepted as checked
+use Rattle.stepdown.proofs.Bars as bars
 use Rattle.adjustment.specs.Adjusted.{rejectedIn, tableFigures}
 use Rattle.adjustment.specs.Passes.{maximumPass, kMaxPass}
 use Rattle.adjustment.specs.Answers.{adjustmentChecks, adjustmentCallChecks, adjustmentCallRefusal, acceptedFigures, refusedFigures, figuresAnswer, figuresWork}
@@ -63,6 +68,7 @@ use Rattle.trial.specs.Record.{ArrayLengths, trimmed, Same, Keeps}
 use Rattle.trial.specs.Aside.{liveOffers}
 use Rattle.trial.specs.Exchange.{byOffer, figuresAt, rowOf, rowTotal, trialRows, tableOf}
 use Rattle.trial.specs.Refusals.{trialRefusal}
+use Rattle.trial.specs.declared.Labels.{Labels}
 use Rattle.trial.specs.declared.Trial.{Trial}
 use Rattle.trial.specs.declared.Design.the-variants.{Paired}
 use Rattle.trial.proofs.Aside.{every-difference}
@@ -76,6 +82,7 @@ use Rattle.trialbalance.specs.TrialBalance.{trialBalanced, trialBalancedRun, tr
 use Rattle.trialadjustment.specs.TrialFigures.{rejectedOf, trialFigures, trialFiguresAnswer}
 use Rattle.trialadjustment.proofs.Trials as trialfigures
 use Rattle.trialrun.proofs.Aside as asides
+use Rattle.trialrun.proofs.Bars as trialbars
 use Rattle.trialrun.proofs.Without as without
 use Rattle.trialrun.proofs.Without.{Without, remainingTable}
 use Rattle.trialrun.specs.FileRuns.{fileRun}
@@ -87,8 +94,8 @@ use Rattle.trialbalance.proofs.Calls as balancing
 use Rattle.control.proofs.Trials as runs-of-trials
 use Rattle.control.proofs.Answered.{tables-answered, trials-answered, balanced-tables-answered, balanced-trials-answered}
 use Rattle.text.specs.Ascii.{ascii}
-use Rattle.text.specs.Text.{printed, decimal, cents, line, refusedText}
-use Rattle.rendering.specs.Reports.{recordAt, offerLineAt, trialText, reportOf, balancedReportOf}
+use Rattle.text.specs.Text.{printed, decimal, decimalInt, cents, line, refusedText}
+use Rattle.rendering.specs.Reports.{recordAt, stepLineAt, offerLineAt, trialText, reportOf, balancedReportOf}
 use Rattle.rendering.specs.Renderings.{renderingOf, afterRendering}
 use Rattle.text.specs.Renderings.{textAnswer, afterText}
 use Rattle.sheet.specs.Sheets.{sheetText, sheetOf}
@@ -436,7 +443,7 @@ unfolding trialVerdictsRefusal trialVerdictsBuffer trialBalancedVerdictsBuffer f
 c-bytes file buf ok i l d = (bytes.byte-told trialRows file buf ok i l d, bytes.byte-told (λ t. balancedRows (trialRows t)) file buf ok i l d)
 
 -- demand 2 is read over the offers that remain: the run of an accepted trial is that of the table of these offers alone, with all its columns. Its records are
--- the same, and of the offers that remain, in their order, verdicts and counts; so are the balanced run and the figures
+-- the same, but that their offers count in the trial (§5), and of the offers that remain, in their order, verdicts and counts; so are the balanced run and the figures
 module _ (t : Trial) (ok : trialRefusal t ≡ 0) where
   pub as-without : Without t (trialRun t) (tableRun (remainingTable t) (rowTotal t) (size (liveOffers t)) (t .shape .k) (t .level .a) (t .level .b) 0)
   as-without = without.trial-without t ok
@@ -485,3 +492,45 @@ idle-alike = runs-of-trials.idle-alike
 -- tables handed in know nothing of this: no column is set aside
 pub tables-tested : (t : List Float) (rows columns k a b observed j : ℕ) → j < columns → (d : Verdict) → isAside (getD (tableRun t rows columns k a b observed .verdicts) j d) ≡ false
 tables-tested = told.table-tested
+
+-- ==== Which offer set the bar (document 02, §5) ====
+
+-- the record of an accepted step tells who set its critical value. `SetBy` says what that is, as facts that are checked without looking for them: a set that the step
+-- looked at gives the critical value, and none before it does; over it the row's k-max equals that value, and no lower row's does; the offer is in the set, its value
+-- in that row equals it, and no lower one of the set has that (runs/specs/SetBy.antt)
+pub step-bar : (t : List Float) (r : Run) (places : ℕ) → stepRefusal t r places ≡ 0
+    → SetBy (r .k) (allowance (r .rows) (r .a) (r .b)) (rowsOf (r .rows) (r .columns) t) (stepSets (r .k) (liveSet (stateOf r)) (rejectedSet (stateOf r)) (r .steps)) (stepRecord t r)
+step-bar = bars.step-set-by
+
+-- the sets that a step looks at, in the order of the walk: in step 1 the live columns, and later those left with each choice of k - 1 rejected ones, lower ones first
+pub sets-looked-at : (k : ℕ) (live R : Columns) (s : ℕ) → (stepSets k live R 0 ≡ live ∷ []) × (stepSets k live R (suc s) ≡ map (λ I. (live ∖ R) ∪ I) (choose (k - 1) R))
+unfolding stepSets
+sets-looked-at k live R s = (refl, refl)
+
+-- so do the records of the full run of an accepted table, balanced or not
+pub table-bars : (t : List Float) (rows columns k a b observed : ℕ) → tableRefusal t rows columns k a b observed ≡ 0
+    → (i : ℕ) → i < length (tableRun t rows columns k a b observed .records) → (d : Record) → RecordSetBy (rowsOf rows columns t) (tableStart rows columns k a b observed) i (getD (tableRun t rows columns k a b observed .records) i d)
+table-bars = bars.table-set-by
+
+-- and of both runs of an accepted trial; the row is one of its rows, and the offer, by its position in the trial, one that is not set aside
+module _ (t : Trial) (ok : trialRefusal t ≡ 0) (i : ℕ) (d : Record) where
+  pub trial-bars : i < length (trialRun t .records) → RecordSetBy (trialRows t) (trialStart t) i (getD (trialRun t .records) i d)
+  trial-bars h = trialbars.plain-set-by t ok i h d
+
+  pub trial-balanced-bars : i < length (trialBalancedRun t .records) → RecordSetBy (balancedRows (trialRows t)) (trialStart t) i (getD (trialBalancedRun t .records) i d)
+  trial-balanced-bars h = balancing.balanced-set-by t ok i h d
+
+  pub bar-remains : i < length (trialRun t .records) → let m = getD (trialRun t .records) i d in (m .row < rowTotal t) × (0 < m .offer) × (m .offer ≤ t .shape .offers) × (untested (t .shape .design) (figuresAt t (m .offer - 1)) ≡ false)
+  bar-remains h = trialbars.plain-offer t ok i h d
+
+  pub balanced-bar-remains : i < length (trialBalancedRun t .records) → let m = getD (trialBalancedRun t .records) i d in (m .row < rowTotal t) × (0 < m .offer) × (m .offer ≤ t .shape .offers) × (untested (t .shape .design) (figuresAt t (m .offer - 1)) ≡ false)
+  balanced-bar-remains h = balancing.balanced-offer t ok i h d
+
+-- in both reports a step's line ends in that row and that offer's printed code
+pub step-lines : (l : Labels) (r : FullRun) (i : ℕ) → let m = recordAt r i in
+    stepLineAt l r i ≡ line (ascii "step") (decimal (m .step) ∷ decimalInt (cents (m .critical)) ∷ decimal (m .row) ∷ printed (getD (l .digits) (m .offer - 1) 0) (getD (l .codes) (m .offer - 1) 0) ∷ [])
+step-lines l r i = refl
+
+-- ties in offers, in rows and between sets, and both zeros; W and P stand among the starred examples
+pub bar-examples : map (λ x. x .asked) ties.bars ≡ map (λ x. x .told) ties.bars
+bar-examples = all-bars

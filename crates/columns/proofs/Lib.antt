@@ -3,3 +3,4 @@ pub mod Masks
 pub mod PutBack
 pub mod Remaining
 pub mod Parts
+pub mod Lowest

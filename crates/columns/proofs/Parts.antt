@@ -5,6 +5,7 @@
 --   choose-same                  what is made of each set of j columns of R
 --   position L i                 the column that is number i of L
 --   position-lt, position-in, within-at     it is a column, of L, and has what stands at i of what is seen
+--   lowest-part                  the lowest column of a set is the same one, seen from L
 use Prim.Native.Nat.{ℕ, zero, suc, _+_, _<_}
 use native.Mathlib.Omega.{arith}
 use mathlib.Core.Path.{_≡_, refl, sym, ap, ap₂, _∙_}
@@ -13,7 +14,8 @@ use mathlib.Core.List.{List, [], _∷_, _++_, map, map-map, map-append, zipWith}
 use lib.ListN.{length, getD}
 use lib.Dec.{T}
 use Rattle.order.specs.Counting.{count}
-use Rattle.columns.specs.Columns.{Columns, everyColumn, size, _∪_, _∩_, _∖_, within, choose}
+use Rattle.order.specs.Lists.{firstAt}
+use Rattle.columns.specs.Columns.{Columns, everyColumn, size, _∪_, _∩_, _∖_, within, choose, lowest}
 use Rattle.columns.proofs.Sets.{has, _⊆_, none, more, empty-in}
 
 pub within-map : {A B : Type 0} (f : A → B) (L : Columns) (row : List A) → within L (map f row) ≡ map f (within L row)
@@ -135,3 +137,12 @@ position-in [] i h = absurd (omega arith)
 position-in (true ∷ L) zero h = refl
 position-in (true ∷ L) (suc i) h = position-in L i (omega arith)
 position-in (false ∷ L) i h = position-in L i (omega arith)
+
+-- the lowest column of a set that L holds
+pub lowest-part : {K L : Columns} → K ⊆ L → position L (lowest (within L K)) ≡ lowest K
+unfolding lowest firstAt within position
+lowest-part none = refl
+lowest-part (more {a = true} {b = true} f s) = refl
+lowest-part (more {a = true} {b = false} f s) = absurd (f tt)
+lowest-part (more {a = false} {b = true} f s) = ap suc (lowest-part s)
+lowest-part (more {a = false} {b = false} f s) = ap suc (lowest-part s)

@@ -2,7 +2,7 @@
 --   within-less, size-less     what K lacks of K′ bounds how many more values, and columns, K′ has
 --   choose-misses     some set of j columns of R lacks at most d of the columns of B, where B has at most j + d
 --   choose-some       there is a set of j columns of R
---   choose-sound      each set of `choose j R` has j columns, all of R
+--   choose-sound, choose-member     each set of `choose j R` has j columns, all of R
 --   size-put, put-in, put-meets     what is left with columns of R put back: its size, that it is live, and what it shares with a smaller set
 --   meet-size, join-meets           what a set shares with another is no larger than that one; with some columns more it shares at most as many more
 --   put-lacks, lacks-none           what it lacks of a set of live columns
@@ -12,11 +12,12 @@ use native.Mathlib.Decide.{decLe}
 use mathlib.Core.Path.{_≡_, refl, sym, ap, _∙_}
 use mathlib.Core.Bool.{Bool, true, false, not, cond, _&&_, _||_}
 use mathlib.Core.List.{List, [], _∷_, map, zipWith}
-use lib.ListN.{length, length-map}
-use lib.Dec.{T}
+use lib.ListN.{length, getD, length-map}
+use lib.Dec.{T, eqb, eqb→eq}
+use borrow.Author.Tests.{eq-eqb}
 use Rattle.order.specs.Counting.{bit, count, all}
-use Rattle.order.proofs.Booleans.{and-right, and-both}
-use Rattle.order.proofs.Counts.{bit-one, bit-yes, bit-le, count-append, count-map, count-length, all-append, all-map}
+use Rattle.order.proofs.Booleans.{true-T, and-left, and-right, and-both, if-holds, then-holds}
+use Rattle.order.proofs.Counts.{bit-one, bit-yes, bit-le, count-append, count-map, count-length, all-append, all-map, all-getD}
 use Rattle.columns.specs.Columns.{Columns, size, _∪_, _∩_, _∖_, within, choose}
 use Rattle.columns.proofs.Sets.{_⊆_, none, more, ⊆-length, size-mono, empty-in, empty-size}
 
@@ -91,6 +92,33 @@ choose-sound (suc j) (true ∷ R) p t =
     (rw (all-map (λ I. false ∷ I) p (choose (suc j) R)) (choose-sound (suc j) R (λ I. p (false ∷ I)) (λ I s e. t (false ∷ I) (more (λ z. absurd z) s) (omega arith))))
 choose-sound (suc j) (false ∷ R) p t =
     rw (all-map (λ I. false ∷ I) p (choose (suc j) R)) (choose-sound (suc j) R (λ I. p (false ∷ I)) (λ I s e. t (false ∷ I) (more (λ z. z) s) (omega arith)))
+
+-- ---- the sets of j columns, one by one
+
+-- a test of subsets
+inside : Columns → Columns → Bool
+inside [] [] = true
+inside [] (b ∷ L) = false
+inside (a ∷ K) [] = false
+inside (a ∷ K) (b ∷ L) = (not a || b) && inside K L
+
+inside-⊆ : (K L : Columns) → T (inside K L) → K ⊆ L
+unfolding inside
+inside-⊆ [] [] t = none
+inside-⊆ [] (b ∷ L) t = absurd t
+inside-⊆ (a ∷ K) [] t = absurd t
+inside-⊆ (a ∷ K) (b ∷ L) t = more (then-holds a b (and-left (not a || b) (inside K L) t)) (inside-⊆ K L (and-right (not a || b) (inside K L) t))
+
+⊆-inside : {K L : Columns} → K ⊆ L → T (inside K L)
+unfolding inside
+⊆-inside none = tt
+⊆-inside (more {a} {b} {K = K} {L = L} f s) = and-both (not a || b) (inside K L) (if-holds a b f) (⊆-inside s)
+
+pub choose-member : (j : ℕ) (R : Columns) (i : ℕ) → i < length (choose j R) → (getD (choose j R) i [] ⊆ R) × (size (getD (choose j R) i []) ≡ j)
+choose-member j R i h =
+    let I = getD (choose j R) i [] in
+    let t : T (inside I R && eqb (size I) j) = all-getD (λ I. inside I R && eqb (size I) j) (choose j R) i [] h (choose-sound j R (λ I. inside I R && eqb (size I) j) (λ I s e. and-both (inside I R) (eqb (size I) j) (⊆-inside s) (true-T (eqb (size I) j) (eq-eqb (size I) j e)))) in
+    (inside-⊆ I R (and-left (inside I R) (eqb (size I) j) t), eqb→eq (size I) j (and-right (inside I R) (eqb (size I) j) t))
 
 -- ---- sets with columns put back
 

@@ -7,6 +7,8 @@
 --   within K row    the values of a row at the columns of K
 --   over v row      the columns whose value is larger than v
 --   reached v row   the columns whose value is at least v
+--   equalTo v row   the columns whose value equals v
+--   lowest K        the lowest column of K, from 0; the number of all columns where it has none
 --   choose j R      the sets of j columns of R: one column and j - 1 later ones, in the order of the walk
 --   inSet s j       bit j of the mask s is 1
 --   columnsOf n s   the set of those of n columns whose bit is 1 in the mask s
@@ -18,8 +20,9 @@ use mathlib.Core.List.{List, [], _∷_, _++_, map, zipWith}
 use lib.ListN.{replicate}
 use lib.Dec.{eqb}
 use lib.Ieee.{Float}
-use Rattle.order.specs.Order.{smaller, atMost}
+use Rattle.order.specs.Order.{smaller, atMost, equal}
 use Rattle.order.specs.Counting.{bit, count}
+use Rattle.order.specs.Lists.{firstAt}
 
 infixl 70 _∩_
 infixl 65 _∪_
@@ -57,11 +60,18 @@ over v row = map (λ x. smaller v x) row
 unfoldable pub reached : Float → List Float → Columns
 reached v row = map (λ x. atMost v x) row
 
+unfoldable pub equalTo : Float → List Float → Columns
+equalTo v row = map (λ x. equal v x) row
+
 unfoldable pub choose : ℕ → Columns → List Columns
 choose zero R = map (λ _. false) R ∷ []
 choose (suc j) [] = []
 choose (suc j) (true ∷ R) = map (λ I. true ∷ I) (choose j R) ++ map (λ I. false ∷ I) (choose (suc j) R)
 choose (suc j) (false ∷ R) = map (λ I. false ∷ I) (choose (suc j) R)
+
+unfoldable pub lowest : Columns → ℕ
+unfolding firstAt
+lowest K = firstAt (λ b. b) K
 
 -- ---- masks
 

@@ -1,5 +1,6 @@
 -- Definitions that only the inner functions cite. Definitions only; a reader of the promises needs none of them.
 --   membersFrom i K      the numbers of the columns of K, the first one being column i
+--   foundOf k e X K      c(K), and the lowest row whose k-max over K equals it
 --   four, blank          the four largest values, in falling order; before any value is seen
 --   pushed t x           once x is seen too: each place keeps the larger of its value and what the place before it gives up
 --   topFrom t xs         once all of xs are seen
@@ -17,13 +18,19 @@ use lib.Ieee.{Float, inf}
 use Rattle.order.specs.Order.{low, smaller, larger, lesser}
 use Rattle.order.specs.Lists.{tabulate}
 use Rattle.columns.specs.Columns.{Columns, size, _∩_}
-use Rattle.method.specs.Method.{kMax}
+use Rattle.method.specs.Method.{kMax, criticalValue}
+use Rattle.method.specs.Bars.{barRow}
 use Rattle.masks.specs.Marks.{passes, those, rowsKept, marksAt}
 use Rattle.critical.specs.declared.kmax.Top.{Top}
+use Rattle.critical.specs.declared.quantile.Found.{Found}
 
 unfoldable pub membersFrom : ℕ → Columns → List ℕ
 membersFrom i [] = []
 membersFrom i (b ∷ K) = cond b (i ∷ membersFrom (suc i) K) (membersFrom (suc i) K)
+
+unfoldable pub foundOf : ℕ → ℕ → List (List Float) → Columns → Found
+unfolding criticalValue barRow
+foundOf k e X K = let c = criticalValue k e X K in record { value = c; row = barRow k X K c }
 
 -- ---- the four largest values
 

@@ -1,4 +1,4 @@
-// c(K): the rows' k-max values over a set go into the work buffer, and the (M - e)-th smallest of them is found there.
+// c(K): the rows' k-max values over a set go into the work buffer, and the (M - e)-th smallest of them is found there. So is the lowest row that has it.
 use super::Figures;
 use super::kmax;
 ghost use mathlib.Core.Path.{_≡_};
@@ -8,9 +8,9 @@ ghost use lib.ListN.{length, drop};
 ghost use Rattle.order.specs.Lists.{rowsOf};
 ghost use Rattle.refusals.specs.Buffers.{written};
 ghost use Rattle.columns.specs.Columns.{size, columnsOf};
-ghost use Rattle.method.specs.Method.{kMax, criticalValue};
+ghost use Rattle.method.specs.Method.{kMax};
 ghost use Rattle.masks.specs.Internal.{CheckedTable};
-ghost use Rattle.critical.specs.Internal.{membersFrom};
+ghost use Rattle.critical.specs.Internal.{membersFrom, foundOf};
 
 // The k-max of each row over the columns of `set`, which are listed, into the first places of the work buffer.
 fn fill(
@@ -34,14 +34,24 @@ fn fill(
     }
 }
 
+// A critical value, and the lowest row whose k-max equals it (document 02, §5).
+pub struct Found {
+    pub value: f64,
+    pub row: usize,
+}
+
 // The critical value of the columns of `set`; of the work buffer only the first M places change.
-pub fn critical_value(table: &[f64], work: &mut [f64], f: Figures, set: u32) -> f64
+pub fn critical_value(table: &[f64], work: &mut [f64], f: Figures, set: u32) -> Found
     requires { ⌜ CheckedTable (now table) (f .rows) (f .columns) (f .k) × (f .rows ≤ length (now work)) × (f .k ≤ size (columnsOf (f .columns) set)) × (f .e < f .rows) ⌝ }
-    ensures { λ r. ⌜ (r ≡ criticalValue (f .k) (f .e) (rowsOf (f .rows) (f .columns) (now (table .entry))) (columnsOf (f .columns) set)) × (drop (f .rows) (now (work .exit)) ≡ drop (f .rows) (now (work .entry))) ⌝ }
+    ensures { λ r. ⌜ (r ≡ foundOf (f .k) (f .e) (rowsOf (f .rows) (f .columns) (now (table .entry))) (columnsOf (f .columns) set)) × (drop (f .rows) (now (work .exit)) ≡ drop (f .rows) (now (work .entry))) ⌝ }
 {
     let m = kmax::members(f.columns, set);
     let n = m.count;
     let columns = m.columns;
     fill(table, work, f.rows, f.columns, f.k, set, &columns[..n]);
-    select::mth_smallest(&work[..f.rows], f.rows - f.e)
+    let c = select::mth_smallest(&work[..f.rows], f.rows - f.e);
+    Found {
+        value: c,
+        row: order::first_equal(&work[..f.rows], c),
+    }
 }

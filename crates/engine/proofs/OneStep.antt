@@ -1,6 +1,7 @@
 -- One step from a state that can be stepped, by masks.
 --   in-progress             what such a state is known to be
---   critical-start, critical-next     the critical value of step 1, and of a later step
+--   bar-start, bar-next     the critical value of step 1, and of a later step, with its set and row
+--   row-there, column-room, column-fits, record-is     the row and the column that set it, and the record
 --   walk-start, walk-held   what holds where the put-back walk begins
 --   new-fits, step-is       the state after the step, and its record
 --   stops-..                whether the step ends the run
@@ -9,26 +10,36 @@ use Prim.Native.Nat.{ℕ, zero, suc, _+_, _-_, _^_, _≤_, _<_}
 use native.Mathlib.Omega.{arith}
 use mathlib.Core.Path.{_≡_, refl, sym, ap, ap₂, _∙_, subst}
 use mathlib.Core.Bool.{Bool, true, false, not, _&&_, _||_}
-use mathlib.Core.List.{List}
-use lib.ListN.{length}
+use mathlib.Core.List.{List, [], _∷_, map}
+use lib.ListN.{length, getD}
 use lib.Dec.{T, ltb, eqb}
 use lib.Ieee.{Float}
 use borrow.Author.Tests.{eq-eqb, ne-eqb, lt-ltb, le-ltb}
 use Rattle.order.specs.Lists.{rowsOf}
 use Rattle.order.proofs.Booleans.{or-holds, or-passes}
 use Rattle.order.proofs.Lists.{rowsOf-length}
-use Rattle.order.proofs.Rows.{rowsOf-sound}
+use Rattle.order.proofs.Rows.{sound-length, rowsOf-sound}
 use Rattle.refusals.proofs.Limits.{positive}
-use Rattle.columns.specs.Columns.{Columns, size, _∪_, _∩_, _∖_, over, columnsOf, maskOf}
+use Rattle.columns.specs.Columns.{Columns, size, _∪_, _∩_, _∖_, over, equalTo, lowest, choose, columnsOf, maskOf}
 use Rattle.columns.proofs.Sets.{has, _⊆_, ⊆-by, ⊆-at, has-∖, has-∩, length-∪}
 use Rattle.columns.proofs.Masks.{maskOf-columnsOf, columnsOf-maskOf, maskOf-lt, mask-join, mask-none, columnsOf-minus, minus-fits}
-use Rattle.method.specs.Method.{criticalValue, putBack}
-use Rattle.runs.specs.Stepdown.{liveSet, rejectedSet, criticalOf, newlyRejected, endsAfter, next, recordOf, step, leftOver}
+use Rattle.method.specs.Method.{kMax, criticalValue, putBack}
+use Rattle.method.specs.Bars.{kMaxColumn}
+use Rattle.runs.specs.Stepdown.{liveSet, rejectedSet, criticalOf, stepSets, barSetOf, barRowOf, barOfferOf, newlyRejected, endsAfter, next, recordOf, step, leftOver}
 use Rattle.runs.specs.declared.State.{State}
+use Rattle.runs.specs.declared.Record.{Record}
 use Rattle.runs.proofs.Steps.{seenRow, critical-first, critical-later, rejected-length, same-length, seen-length, over-left, newly-is, both-length, next-rejected, going-on}
 use Rattle.runs.proofs.Descent.{InProgress, next-inside}
+use Rattle.runs.proofs.Bars.{Ready, bar-length, row-below, row-gives, row-sound, offer-told, offer-most}
 use Rattle.masks.specs.Internal.{Walk}
-use Rattle.engine.specs.Internal.{CanStep, stops}
+use Rattle.putback.specs.Internal.{barOf}
+use Rattle.putback.specs.declared.Bar.{Bar}
+use Rattle.engine.specs.Internal.{CanStep, barIn, stops}
+
+later-sets : (k : ℕ) (live R : Columns) (s : ℕ) → (s ≡ 0 → ⊥) → stepSets k live R s ≡ map (λ I. (live ∖ R) ∪ I) (choose (k - 1) R)
+unfolding stepSets
+later-sets k live R zero z = absurd (z refl)
+later-sets k live R (suc s) z = refl
 
 module _ (t : List Float) (r : State) (g : CanStep t r) where
   abbrev X : List (List Float)
@@ -58,11 +69,60 @@ module _ (t : List Float) (r : State) (g : CanStep t r) where
 
   -- ---- the critical value
 
-  pub critical-start : (c : Float) → r .steps ≡ 0 → c ≡ criticalValue (r .k) (r .e) X (liveSet r) → c ≡ criticalOf X r
-  critical-start c z v = v ∙ sym (critical-first X r z)
+  pub bar-start : (c : Bar) → r .steps ≡ 0 → c ≡ barOf (r .k) (r .e) X (liveSet r ∷ []) (criticalValue (r .k) (r .e) X (liveSet r)) → c ≡ barIn X r
+  unfolding barIn stepSets
+  bar-start c z v =
+      v ∙ ap₂ (λ (Ks : List Columns) (x : Float). barOf (r .k) (r .e) X Ks x) (ap (stepSets (r .k) (liveSet r) (rejectedSet r)) (sym z)) (sym (critical-first X r z))
 
-  pub critical-next : (c : Float) → (r .steps ≡ 0 → ⊥) → c ≡ putBack (r .k) (r .e) X (columnsOf (r .columns) (r .live - r .rejected)) (rejectedSet r) → c ≡ criticalOf X r
-  critical-next c z v = v ∙ ap (λ (K : Columns). putBack (r .k) (r .e) X K (rejectedSet r)) left-is ∙ sym (critical-later X r (positive (r .steps) z))
+  pub bar-next : (c : Bar) → (r .steps ≡ 0 → ⊥)
+      → c ≡ barOf (r .k) (r .e) X (map (λ I. columnsOf (r .columns) (r .live - r .rejected) ∪ I) (choose (r .k - 1) (rejectedSet r))) (putBack (r .k) (r .e) X (columnsOf (r .columns) (r .live - r .rejected)) (rejectedSet r)) → c ≡ barIn X r
+  unfolding barIn
+  bar-next c z v =
+      v ∙ ap (λ (K : Columns). barOf (r .k) (r .e) X (map (λ I. K ∪ I) (choose (r .k - 1) (rejectedSet r))) (putBack (r .k) (r .e) X K (rejectedSet r))) left-is
+      ∙ ap₂ (λ (Ks : List Columns) (x : Float). barOf (r .k) (r .e) X Ks x) (sym (later-sets (r .k) (liveSet r) (rejectedSet r) (r .steps) z)) (sym (critical-later X r (positive (r .steps) z)))
+
+  bar-value : (c : Bar) → c ≡ barIn X r → c .value ≡ criticalOf X r
+  unfolding barIn barOf
+  bar-value c q = ap (λ (x : Bar). x .value) q
+
+  -- ---- the record
+
+  pub ready : Ready X r
+  ready = record { progress = in-progress; first = g .first; left = λ _. g .left }
+
+  module _ (c : Bar) (q : c ≡ barIn X r) where
+    row-is : c .row ≡ barRowOf X r
+    unfolding barIn barOf barRowOf barSetOf
+    row-is = ap (λ (x : Bar). x .row) q
+
+    set-is : columnsOf (r .columns) (c .set) ≡ barSetOf X r
+    unfolding barIn barOf barSetOf
+    set-is =
+        ap (λ (x : Bar). columnsOf (r .columns) (x .set)) q
+        ∙ ap (λ (n : ℕ). columnsOf n (maskOf (barSetOf X r))) (sym (bar-length X r ready)) ∙ columnsOf-maskOf (barSetOf X r)
+
+    pub row-there : c .row < r .rows
+    row-there = omega (arith, row-is, row-below X r ready, tall)
+
+    pub column-room : (row : List Float) → row ≡ getD X (c .row) [] → length row ≡ r .columns
+    column-room row w = ap length (w ∙ ap (λ (i : ℕ). getD X i []) row-is) ∙ sound-length (r .columns) (getD X (barRowOf X r) []) (row-sound X r ready)
+
+    column-is : (row : List Float) → row ≡ getD X (c .row) [] → lowest (columnsOf (length row) (c .set) ∩ equalTo (c .value) row) ≡ kMaxColumn (r .k) (barSetOf X r) (getD X (barRowOf X r) [])
+    unfolding kMaxColumn
+    column-is row w =
+        ap₂ (λ (n : ℕ) (v : Float). lowest (columnsOf n (c .set) ∩ equalTo v row)) (column-room row w) (bar-value c q ∙ sym (row-gives X r ready))
+        ∙ ap₂ (λ (K : Columns) (y : List Float). lowest (K ∩ equalTo (kMax (r .k) (barSetOf X r) (getD X (barRowOf X r) [])) y)) set-is (w ∙ ap (λ (i : ℕ). getD X i []) row-is)
+
+    pub column-fits : (row : List Float) → row ≡ getD X (c .row) [] → (n : ℕ) → n ≡ lowest (columnsOf (length row) (c .set) ∩ equalTo (c .value) row) → n < 32
+    column-fits row w n e = omega (arith, e ∙ column-is row w, offer-told X r ready .0, offer-most X r ready, g .ready .cols-most)
+
+    pub record-is : (row : List Float) → row ≡ getD X (c .row) [] → (n : ℕ) → n ≡ lowest (columnsOf (length row) (c .set) ∩ equalTo (c .value) row)
+        → record { step = r .steps + 1; critical = c .value; row = c .row; offer = n + 1 } ≡ recordOf X r
+    unfolding recordOf
+    record-is row w n e = λ i. record { step = r .steps + 1; critical = bar-value c q i; row = row-is i; offer = offer i }
+      where
+        offer : n + 1 ≡ barOfferOf X r
+        offer = ap (λ (m : ℕ). m + 1) (e ∙ column-is row w) ∙ sym (offer-told X r ready .0)
 
   -- what is left and what is rejected share no column
   apart : (j : ℕ) → T (has (rejectedSet r) j) → has (leftOver r) j ≡ false
@@ -90,14 +150,14 @@ module _ (t : List Float) (r : State) (g : CanStep t r) where
 
   -- ---- what the step rejects
 
-  module _ (c : Float) (v : c ≡ criticalOf X r) (row : List Float) (w : row ≡ seenRow X r) (new : ℕ) (n : new ≡ maskOf (columnsOf (length row) (r .live - r .rejected) ∩ over c row)) where
+  module _ (b : Bar) (q : b ≡ barIn X r) (row : List Float) (w : row ≡ seenRow X r) (new : ℕ) (n : new ≡ maskOf (columnsOf (length row) (r .live - r .rejected) ∩ over (b .value) row)) where
     p : InProgress X r
     p = in-progress
 
     new-is : new ≡ maskOf (newlyRejected X r)
     new-is = n ∙ ap maskOf
-        (ap₂ (λ (x : ℕ) (y : List Float). columnsOf x (r .live - r .rejected) ∩ over c y) (ap length w ∙ seen-length X r (p .sound) (p .seen)) w
-        ∙ ap₂ (λ (K : Columns) (y : Float). K ∩ over y (seenRow X r)) left-is v ∙ sym (newly-is X r))
+        (ap₂ (λ (x : ℕ) (y : List Float). columnsOf x (r .live - r .rejected) ∩ over (b .value) y) (ap length w ∙ seen-length X r (p .sound) (p .seen)) w
+        ∙ ap₂ (λ (K : Columns) (y : Float). K ∩ over y (seenRow X r)) left-is (bar-value b q) ∙ sym (newly-is X r))
 
     -- rejected before and now share no column
     disjoint : (j : ℕ) → T (has (rejectedSet r) j) → has (newlyRejected X r) j ≡ false
@@ -145,15 +205,15 @@ module _ (t : List Float) (r : State) (g : CanStep t r) where
         ap₂ (λ (x : Bool) (K : Columns). x || (ltb (size K) (r .k) || eqb (r .live) (r .rejected + new))) (ap (λ (x : ℕ). eqb x 0) new-is ∙ mask-none (newlyRejected X r)) after-columns
         ∙ ap (λ (b : Bool). eqb (size (newlyRejected X r)) 0 || (ltb (size (rejectedSet r ∪ newlyRejected X r)) (r .k) || b)) none-left
 
-    pub step-is : (b : Bool) → b ≡ stops (r .columns) (r .k) (r .live) new (r .rejected + new)
+    pub step-is : (d : Bool) (m : Record) → d ≡ stops (r .columns) (r .k) (r .live) new (r .rejected + new) → m ≡ recordOf X r
         → record {
-          state = record { rows = r .rows; columns = r .columns; k = r .k; e = r .e; observed = r .observed; live = r .live; rejected = r .rejected + new; steps = r .steps + 1; ended = b };
-          logged = record { step = r .steps + 1; critical = c };
+          state = record { rows = r .rows; columns = r .columns; k = r .k; e = r .e; observed = r .observed; live = r .live; rejected = r .rejected + new; steps = r .steps + 1; ended = d };
+          logged = m;
         } ≡ step X r
-    unfolding next recordOf
-    step-is b s = λ i. record {
+    unfolding next
+    step-is d m s l = λ i. record {
       state = record { rows = r .rows; columns = r .columns; k = r .k; e = r .e; observed = r .observed; live = r .live; rejected = union-is i; steps = r .steps + 1; ended = (s ∙ stops-is) i };
-      logged = record { step = r .steps + 1; critical = v i };
+      logged = l i;
     }
 
   -- ---- the state after the step

@@ -27,7 +27,7 @@ lookFrom t i last j = verdictOver last (drop i (take (t .steps) (t .records))) (
 
 module _ (t : Trace) (i j : ℕ) (last : Float) (d : Traced t) (h : i < t .steps) where
   rec : Record
-  rec = getD (t .records) i (record { step = 0; critical = nan })
+  rec = getD (t .records) i (record { step = 0; critical = nan; row = 0; offer = 0 })
 
   look-more : lookFrom t i last j ≡ cond (inSet (getD (t .sets) i 0) j) (Rejected (rec .step) (rec .critical)) (lookFrom t (i + 1) (rec .critical) j)
   unfolding rec
@@ -39,18 +39,18 @@ module _ (t : Trace) (i j : ℕ) (last : Float) (d : Traced t) (h : i < t .steps
       s-length : length (take (t .steps) (t .sets)) ≡ t .steps
       s-length = length-take-le (t .steps) (t .sets) (omega (arith, d .steps-most, d .sets-32))
 
-      front : drop i (take (t .steps) (t .records)) ≡ getD (t .records) i (record { step = 0; critical = nan }) ∷ drop (i + 1) (take (t .steps) (t .records))
-      front = drop-cons (take (t .steps) (t .records)) i (record { step = 0; critical = nan }) (omega (arith, r-length))
-          ∙ ap₂ (λ (x : Record) (n : ℕ). x ∷ drop n (take (t .steps) (t .records))) (getD-take (t .steps) (t .records) i (record { step = 0; critical = nan }) h) (sym (add-one i))
+      front : drop i (take (t .steps) (t .records)) ≡ getD (t .records) i (record { step = 0; critical = nan; row = 0; offer = 0 }) ∷ drop (i + 1) (take (t .steps) (t .records))
+      front = drop-cons (take (t .steps) (t .records)) i (record { step = 0; critical = nan; row = 0; offer = 0 }) (omega (arith, r-length))
+          ∙ ap₂ (λ (x : Record) (n : ℕ). x ∷ drop n (take (t .steps) (t .records))) (getD-take (t .steps) (t .records) i (record { step = 0; critical = nan; row = 0; offer = 0 }) h) (sym (add-one i))
 
       front-sets : drop i (take (t .steps) (t .sets)) ≡ getD (t .sets) i 0 ∷ drop (i + 1) (take (t .steps) (t .sets))
       front-sets = drop-cons (take (t .steps) (t .sets)) i 0 (omega (arith, s-length)) ∙ ap₂ (λ (x n : ℕ). x ∷ drop n (take (t .steps) (t .sets))) (getD-take (t .steps) (t .sets) i 0 h) (sym (add-one i))
 
-  pub look-hit : (r : Record) → r ≡ getD (t .records) i (record { step = 0; critical = nan }) → getD (t .sets) i 0 / 2 ^ j % 2 ≡ 1 → verdictIn t j ≡ lookFrom t i last j → Rejected (r .step) (r .critical) ≡ verdictIn t j
+  pub look-hit : (r : Record) → r ≡ getD (t .records) i (record { step = 0; critical = nan; row = 0; offer = 0 }) → getD (t .sets) i 0 / 2 ^ j % 2 ≡ 1 → verdictIn t j ≡ lookFrom t i last j → Rejected (r .step) (r .critical) ≡ verdictIn t j
   unfolding rec
   look-hit r q e v = sym (v ∙ look-more ∙ ap (λ (b : Bool). cond b (Rejected (rec .step) (rec .critical)) (lookFrom t (i + 1) (rec .critical) j)) (eq-eqb (getD (t .sets) i 0 / 2 ^ j % 2) 1 e) ∙ ap (λ (x : Record). Rejected (x .step) (x .critical)) (sym q))
 
-  pub look-on : (r : Record) → r ≡ getD (t .records) i (record { step = 0; critical = nan }) → (getD (t .sets) i 0 / 2 ^ j % 2 ≡ 1 → ⊥) → verdictIn t j ≡ lookFrom t i last j → verdictIn t j ≡ lookFrom t (i + 1) (r .critical) j
+  pub look-on : (r : Record) → r ≡ getD (t .records) i (record { step = 0; critical = nan; row = 0; offer = 0 }) → (getD (t .sets) i 0 / 2 ^ j % 2 ≡ 1 → ⊥) → verdictIn t j ≡ lookFrom t i last j → verdictIn t j ≡ lookFrom t (i + 1) (r .critical) j
   unfolding rec
   look-on r q e v = v ∙ look-more ∙ ap (λ (b : Bool). cond b (Rejected (rec .step) (rec .critical)) (lookFrom t (i + 1) (rec .critical) j)) (ne-eqb (getD (t .sets) i 0 / 2 ^ j % 2) 1 e) ∙ ap (λ (x : Record). lookFrom t (i + 1) (x .critical) j) (sym q)
 

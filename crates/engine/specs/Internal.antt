@@ -1,5 +1,6 @@
 -- Definitions that only the inner functions cite. Definitions only; a reader of the promises needs none of them.
 --   CanStep t s          a table that has passed its checks, and a state from which a step can be taken
+--   barIn X s            the critical value of the next step, with the set and the row that gave it
 --   stops columns k live new rejected    whether a step ends the run, by masks of what it rejected and of all that is rejected
 --   Traced t             a trace of at most 32 steps, in arrays of 32 places
 --   traceOf ss           the records and rejected sets of steps, in 32 places each
@@ -18,7 +19,7 @@ use Rattle.order.specs.Order.{plusZero}
 use Rattle.order.specs.Lists.{tabulate, rowsOf, padded}
 use Rattle.columns.specs.Columns.{size, _∖_, columnsOf, inSet}
 use Rattle.method.specs.Method.{atLeast}
-use Rattle.runs.specs.Stepdown.{liveSet, rejectedSet}
+use Rattle.runs.specs.Stepdown.{liveSet, rejectedSet, criticalOf, stepSets}
 use Rattle.runs.specs.FullRuns.{noRecord, decision}
 use Rattle.runs.specs.declared.State.{State}
 use Rattle.runs.specs.declared.Step.{Step}
@@ -27,6 +28,8 @@ use Rattle.runs.specs.declared.Verdict.{Verdict}
 use Rattle.runs.specs.declared.Verdict.the-variants.{Rejected, Kept, Aside}
 use Rattle.runs.specs.declared.FullRun.{FullRun}
 use Rattle.masks.specs.Internal.{CheckedTable}
+use Rattle.putback.specs.Internal.{barOf}
+use Rattle.putback.specs.declared.Bar.{Bar}
 use Rattle.engine.specs.declared.tracing.Trace.{Trace}
 
 pub record CanStep (t : List Float) (s : State) : Type 0 where
@@ -40,6 +43,10 @@ pub record CanStep (t : List Float) (s : State) : Type 0 where
   pub first : s .steps ≡ 0 → s .k ≤ size (liveSet s)
   pub many : 0 < s .steps → s .k ≤ size (rejectedSet s)
   pub left : 0 < size (liveSet s ∖ rejectedSet s)
+
+unfoldable pub barIn : List (List Float) → State → Bar
+unfolding barOf stepSets criticalOf columnsOf
+barIn X s = barOf (s .k) (s .e) X (stepSets (s .k) (liveSet s) (rejectedSet s) (s .steps)) (criticalOf X s)
 
 unfoldable pub stops : ℕ → ℕ → ℕ → ℕ → ℕ → Bool
 unfolding size columnsOf

@@ -1,6 +1,7 @@
 // One step from a state that can be stepped.
 use critical::Figures;
 use limits::TABLE_ROWS_MOST;
+use putback::Bar;
 use runs::Record;
 use runs::State;
 use runs::Step;
@@ -9,7 +10,7 @@ ghost use Prim.Native.Nat.{_≤_};
 ghost use lib.ListN.{length, drop};
 ghost use Rattle.order.specs.Lists.{rowsOf};
 ghost use Rattle.refusals.specs.Buffers.{cleared};
-ghost use Rattle.engine.specs.Internal.{CanStep, stops};
+ghost use Rattle.engine.specs.Internal.{CanStep, barIn, stops};
 ghost use Rattle.runs.specs.Stepdown as stepdown;
 
 // Plus zero into the first m places of the work buffer.
@@ -24,10 +25,10 @@ pub fn clear(work: &mut [f64], m: usize)
     }
 }
 
-// The critical value of the next step.
-fn critical_of(s: State, table: &[f64], work: &mut [f64]) -> f64
+// The critical value of the next step, with the set and the row that gave it.
+fn bar_of(s: State, table: &[f64], work: &mut [f64]) -> Bar
     requires { ⌜ CanStep (now table) s × (s .rows ≤ length (now work)) ⌝ }
-    ensures { λ c. ⌜ (c ≡ stepdown.criticalOf (rowsOf (s .rows) (s .columns) (now (table .entry))) s) × (drop (s .rows) (now (work .exit)) ≡ drop (s .rows) (now (work .entry))) ⌝ }
+    ensures { λ r. ⌜ (r ≡ barIn (rowsOf (s .rows) (s .columns) (now (table .entry))) s) × (drop (s .rows) (now (work .exit)) ≡ drop (s .rows) (now (work .entry))) ⌝ }
 {
     let mut kept = [0u16; TABLE_ROWS_MOST];
     let mut marks = [0u32; TABLE_ROWS_MOST];
@@ -51,6 +52,22 @@ fn critical_of(s: State, table: &[f64], work: &mut [f64]) -> f64
     )
 }
 
+// The record of the next step. The offer is the lowest column of the set whose value in the row is the critical value; it counts from 1.
+fn record_of(s: State, table: &[f64], bar: Bar) -> Record
+    requires { ⌜ CanStep (now table) s × (bar ≡ barIn (rowsOf (s .rows) (s .columns) (now table)) s) ⌝ }
+    ensures { λ r. ⌜ r ≡ stepdown.recordOf (rowsOf (s .rows) (s .columns) (now (table .entry))) s ⌝ }
+{
+    let from = bar.row * s.columns;
+    let to = from + s.columns;
+    let column = masks::lowest_equal(&table[from..to], bar.set, bar.value);
+    Record {
+        step: s.steps + 1,
+        critical: bar.value,
+        row: bar.row,
+        offer: column + 1,
+    }
+}
+
 // Whether a step that rejected the columns of `new` ends the run: nothing new, fewer than k in all, or none left.
 fn ends(columns: usize, k: usize, live: u32, new: u32, rejected: u32) -> bool
     ensures { λ b. ⌜ b ≡ stops columns k live new rejected ⌝ }
@@ -69,14 +86,14 @@ pub fn step(s: State, table: &[f64], work: &mut [f64]) -> Step
     requires { ⌜ CanStep (now table) s × (s .rows ≤ length (now work)) ⌝ }
     ensures { λ r. ⌜ (r ≡ stepdown.step (rowsOf (s .rows) (s .columns) (now (table .entry))) s) × (drop (s .rows) (now (work .exit)) ≡ drop (s .rows) (now (work .entry))) ⌝ }
 {
-    let c = critical_of(s, table, work);
+    let bar = bar_of(s, table, work);
     let from = s.observed * s.columns;
     let to = from + s.columns;
     let remaining = s.live - s.rejected;
-    let new = masks::above(&table[from..to], remaining, c);
+    let new = masks::above(&table[from..to], remaining, bar.value);
     let rejected = s.rejected + new;
     let ended = ends(s.columns, s.k, s.live, new, rejected);
-    let number = s.steps + 1;
+    let logged = record_of(s, table, bar);
     Step {
         state: State {
             rows: s.rows,
@@ -86,12 +103,9 @@ pub fn step(s: State, table: &[f64], work: &mut [f64]) -> Step
             observed: s.observed,
             live: s.live,
             rejected,
-            steps: number,
+            steps: s.steps + 1,
             ended,
         },
-        logged: Record {
-            step: number,
-            critical: c,
-        },
+        logged,
     }
 }

@@ -46,6 +46,8 @@ fn all_steps(start: State, table: &[f64], work: &mut [f64]) -> Trace
     let blank = Record {
         step: 0,
         critical: 0.0,
+        row: 0,
+        offer: 0,
     };
     let mut t = Trace {
         steps: 0,

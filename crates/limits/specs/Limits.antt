@@ -72,7 +72,7 @@ abbrev pub headMost : ℕ
 headMost = 128
 
 abbrev pub stepLineMost : ℕ
-stepLineMost = 48
+stepLineMost = digitsMost + 70
 
 abbrev pub offerLineMost : ℕ
 offerLineMost = digitsMost + 52

@@ -32,7 +32,7 @@ pub const INPUT_ROOM: usize = LONGEST_FILE + 1;
 
 pub const HEAD_MOST: usize = 128;
 
-pub const STEP_LINE_MOST: usize = 48;
+pub const STEP_LINE_MOST: usize = DIGITS_MOST + 70;
 
 pub const OFFER_LINE_MOST: usize = DIGITS_MOST + 52;
 

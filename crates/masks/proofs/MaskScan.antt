@@ -2,13 +2,14 @@
 --   size-start, size-in, size-past, size-done     a count of the columns
 --   aboveFrom, above-start, above-in, above-past, above-done     a mask of the columns whose value is above v
 --   above-fits, above-room, above-keep     that mask stays below the bit of the next column, and within 32
+--   lowestFrom, lowest-start, lowest-hit, lowest-on, lowest-out     the lowest column whose value equals v
 --   full-32     the mask of 32 columns
 use Prim.Native.Nat.{ℕ, suc, _+_, _-_, _*_, _/_, _%_, _^_, _≤_, _<_}
 use native.Mathlib.Omega.{arith}
 use native.Mathlib.Numerals.{add-one}
 use native.Mathlib.Nat.{pow-suc, mul-one, mul-zero, mul-add, mul-assoc}
 use mathlib.Core.Path.{_≡_, refl, sym, ap, ap₂, _∙_}
-use mathlib.Core.Bool.{Bool, true, false, _&&_}
+use mathlib.Core.Bool.{Bool, true, false, cond, _&&_}
 use mathlib.Core.List.{List, _∷_, zipWith}
 use lib.ListN.{length, getD, drop}
 use lib.Seq.{drop-cons}
@@ -16,9 +17,10 @@ use lib.Dec.{eqb}
 use lib.Pow.{pow-mono}
 use lib.Ieee.{Float, nan}
 use borrow.Author.Tests.{eq-eqb, ne-eqb}
-use Rattle.order.specs.Order.{smaller}
+use Rattle.order.specs.Order.{smaller, equal}
 use Rattle.order.specs.Counting.{bit, count}
-use Rattle.columns.specs.Columns.{Columns, size, _∩_, over, columnsOf, maskOf, fullMask}
+use Rattle.order.specs.Lists.{firstAt}
+use Rattle.columns.specs.Columns.{Columns, size, _∩_, over, equalTo, lowest, columnsOf, maskOf, fullMask}
 
 -- ---- the columns from i on
 
@@ -86,6 +88,34 @@ above-room i m n p l e f = let r : 2 ^ (i + 1) ≡ 2 ^ i * 2 = ap (λ (x : ℕ).
 
 pub above-keep : (i m n : ℕ) → m < 2 ^ i → n ≡ m → n < 2 ^ (i + 1)
 above-keep i m n l e = let r : 2 ^ (i + 1) ≡ 2 ^ i * 2 = ap (λ (x : ℕ). 2 ^ x) (add-one i) ∙ pow-suc 2 i in omega arith
+
+-- ---- the lowest column with a value
+
+-- the one that is still to be found, from column i on
+unfoldable pub lowestFrom : List Float → ℕ → ℕ → Float → ℕ
+lowestFrom row i s v = i + lowest (columnsOf (length row - i) s ∩ equalTo v (drop i row))
+
+module _ (row : List Float) (i s : ℕ) (v : Float) (h : i < length row) where
+  lowest-turn : (b : Bool) → (eqb (s % 2) 1 && equal v (getD row i nan)) ≡ b → lowestFrom row i s v ≡ i + cond b 0 (suc (lowest (columnsOf (length row - (i + 1)) (s / 2) ∩ equalTo v (drop (i + 1) row))))
+  unfolding lowestFrom lowest firstAt _∩_ zipWith equalTo
+  lowest-turn b e =
+      ap₂ (λ (K : Columns) (r : List Float). i + lowest (K ∩ equalTo v r)) (split (length row) i s h (eqb (s % 2) 1) refl) (drop-cons row i nan h ∙ ap (λ (n : ℕ). getD row i nan ∷ drop n row) (sym (add-one i)))
+      ∙ ap (λ (d : Bool). i + cond d 0 (suc (lowest (columnsOf (length row - (i + 1)) (s / 2) ∩ equalTo v (drop (i + 1) row))))) e
+
+  pub lowest-hit : (t : ℕ) → (eqb (s % 2) 1 && equal v (getD row i nan)) ≡ true → lowestFrom row i s v ≡ t → i ≡ t
+  lowest-hit t e g = omega (arith, lowest-turn true e)
+
+  pub lowest-on : (t : ℕ) → (eqb (s % 2) 1 && equal v (getD row i nan)) ≡ false → lowestFrom row i s v ≡ t → lowestFrom row (i + 1) (s / 2) v ≡ t
+  unfolding lowestFrom
+  lowest-on t e g = omega (arith, lowest-turn false e)
+
+pub lowest-out : (row : List Float) (i s t : ℕ) (v : Float) → length row ≤ i → lowestFrom row i s v ≡ t → i ≡ t
+unfolding lowestFrom columnsOf _∩_ zipWith lowest firstAt
+lowest-out row i s t v h g = let e : length row - i ≡ 0 = omega arith in omega (arith, ap (λ (n : ℕ). lowest (columnsOf n s ∩ equalTo v (drop i row))) e)
+
+pub lowest-start : (row : List Float) (s : ℕ) (v : Float) → lowestFrom row 0 s v ≡ lowest (columnsOf (length row) s ∩ equalTo v row)
+unfolding lowestFrom
+lowest-start row s v = let e : length row - 0 ≡ length row = omega arith in omega (arith, ap (λ (n : ℕ). lowest (columnsOf n s ∩ equalTo v row)) e)
 
 -- ---- all columns
 

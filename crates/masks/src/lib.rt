@@ -10,5 +10,6 @@ pub use rows::mark_all;
 pub use sets::above;
 pub use sets::bit;
 pub use sets::full_mask;
+pub use sets::lowest_equal;
 pub use sets::lowest_over;
 pub use sets::size_of;

@@ -4,8 +4,8 @@ ghost use Prim.Native.Nat.{_<_, _≤_, _^_, _%_};
 ghost use mathlib.Core.Bool.{_&&_};
 ghost use lib.Dec.{eqb};
 ghost use lib.ListN.{length};
-ghost use Rattle.order.specs.Order.{smaller};
-ghost use Rattle.columns.specs.Columns.{size, columnsOf, maskOf, over, _∩_, fullMask};
+ghost use Rattle.order.specs.Order.{smaller, equal};
+ghost use Rattle.columns.specs.Columns.{size, columnsOf, maskOf, over, equalTo, lowest, _∩_, fullMask};
 
 // Column j alone.
 pub fn bit(j: usize) -> u32
@@ -69,4 +69,30 @@ pub fn above(row: &[f64], set: u32, v: f64) -> u32
         i += 1;
     }
     m
+}
+
+// Whether the lowest column is in the set and its value equals v.
+fn lowest_is(s: u32, v: f64, x: f64) -> bool
+    ensures { λ r. ⌜ r ≡ (eqb (s % 2) 1 && equal v x) ⌝ }
+{
+    if s % 2 == 1 {
+        return order::equal(v, x);
+    }
+    false
+}
+
+// The lowest column of a set whose value in the row equals v; the number of columns where there is none.
+pub fn lowest_equal(row: &[f64], set: u32, v: f64) -> usize
+    ensures { λ r. ⌜ r ≡ lowest (columnsOf (length (now (row .entry))) set ∩ equalTo v (now (row .entry))) ⌝ }
+{
+    let mut s = set;
+    let mut i: usize = 0;
+    while i < row.len() {
+        if lowest_is(s, v, row[i]) {
+            return i;
+        }
+        s /= 2;
+        i += 1;
+    }
+    i
 }

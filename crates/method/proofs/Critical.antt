@@ -1,6 +1,7 @@
 -- Laws of critical values.
 --   criticalValue-law    c(K) is above v exactly where more than e rows have k values of K above v
 --   critical-looser      c(K′) with k′ and e′ is at most c(K) with k ≤ k′ and e ≤ e′, where K lacks at most k′ - k columns of K′
+--   criticalValue-plain  c(K) has no minus sign on zero
 --   criticalValue-holds  c(K) of at least k columns is a value of the table, with plus zero for either zero
 --   atLeast-own          the observed row is counted
 --   criticalValue-keeps, putBack-keeps     what holds of every value and of plus zero holds of critical values
@@ -22,7 +23,7 @@ use Rattle.order.proofs.Keys.{key, atMost-key, zero-finite, withPlusZero-key}
 use Rattle.order.proofs.Counts.{count-some, all-getD, all-true, all-le, all-both, all-map, count-le, count-map}
 use Rattle.order.proofs.Rows.{Finite, soundRow, Sound, sound-length, sound-finite, sound-at, sound-all}
 use Rattle.select.specs.Rank.{kthLargest, mthSmallest}
-use Rattle.select.proofs.Ranks.{above, kthLargest-law, kthLargest-holds, kthLargest-ranks, kthLargest-keeps, mthSmallest-above, mthSmallest-holds, mthSmallest-keeps, largest-reaches}
+use Rattle.select.proofs.Ranks.{above, kthLargest-law, kthLargest-holds, kthLargest-ranks, kthLargest-keeps, mthSmallest-above, mthSmallest-holds, mthSmallest-keeps, mthSmallest-plain, largest-reaches}
 use Rattle.columns.specs.Columns.{Columns, size, _∪_, _∖_, within, choose}
 use Rattle.columns.proofs.PutBack.{within-less, size-less}
 use Rattle.columns.proofs.Sets.{within-length, within-all}
@@ -88,6 +89,11 @@ criticalValue-keeps p z k e X K h = mthSmallest-keeps p z (length X - e) (tops k
 
 pub criticalValue-finite : (n k e : ℕ) (X : List (List Float)) (K : Columns) → Sound n X → T (finite (criticalValue k e X K))
 criticalValue-finite n k e X K s = criticalValue-keeps finite zero-finite k e X K (sound-all n X s)
+
+-- it has no minus sign on zero
+pub criticalValue-plain : (k e : ℕ) (X : List (List Float)) (K : Columns) → withPlusZero (criticalValue k e X K) ≡ criticalValue k e X K
+unfolding criticalValue
+criticalValue-plain k e X K = mthSmallest-plain (length X - e) (tops k X K)
 
 -- ---- looser settings
 

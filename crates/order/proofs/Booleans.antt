@@ -90,6 +90,13 @@ or-holds a b h = ap (λ (x : Bool). x || b) (sym h)
 pub or-passes : (a b r : Bool) → a ≡ false → r ≡ b → r ≡ (a || b)
 or-passes a b r h e = e ∙ ap (λ (x : Bool). x || b) (sym h)
 
+-- of two joined by "and", the first that does not hold decides
+pub and-holds : (a b : Bool) → a ≡ true → b ≡ (a && b)
+and-holds a b h = ap (λ (x : Bool). x && b) (sym h)
+
+pub and-fails : (a b : Bool) → a ≡ false → false ≡ (a && b)
+and-fails a b h = ap (λ (x : Bool). x && b) (sym h)
+
 -- of several with numbers likewise
 pub holds : (b : Bool) (n r : ℕ) → b ≡ true → n ≡ cond b n r
 holds b n r h = ap (λ (x : Bool). cond x n r) (sym h)

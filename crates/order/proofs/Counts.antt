@@ -66,6 +66,16 @@ module _ {A : Type 0} where
   count-some p (x ∷ l) zero d h t = omega (arith, bit-yes (p x) t)
   count-some p (x ∷ l) (suc i) d h t = omega (arith, count-some p l i d (omega arith) t)
 
+  -- where none is counted, none passes
+  pub none-counted : (p : A → Bool) (l : List A) → count p l ≡ 0 → T (all (λ x. not (p x)) l)
+  unfolding count all
+  none-counted p [] h = tt
+  none-counted p (x ∷ l) h = go (p x) h (none-counted p l)
+    where
+      go : (b : Bool) → bit b + count p l ≡ 0 → (count p l ≡ 0 → T (all (λ x. not (p x)) l)) → T (not b && all (λ x. not (p x)) l)
+      go true h ih = absurd (omega arith)
+      go false h ih = ih (omega arith)
+
   pub count-append : (p : A → Bool) (s t : List A) → count p (s ++ t) ≡ count p s + count p t
   unfolding count
   count-append p [] t = omega arith

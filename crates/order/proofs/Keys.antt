@@ -2,7 +2,7 @@
 --   key x            the number x in units of the smallest positive value, shifted so that it is never negative
 --   mag, signed      a magnitude in these units, and so many above or below zero's key; mag-lt, zero-mag, no-mag: its bound, and zero's
 --   smaller-key      x is smaller than y exactly where its key is
---   atMost-key       the same of at most; equal-key: equal numbers have one key
+--   atMost-key       the same of at most; equal-is, equal-key: equal numbers have one key, and only those
 --   withPlusZero-same    finite values with one key differ at most in the sign of zero
 use Prim.Native.Nat.{ℕ, zero, suc, _+_, _-_, _*_, _/_, _^_, _≤_, _<_, _%_}
 use native.Mathlib.Omega.{arith}
@@ -18,7 +18,7 @@ use lib.Ieee.{Float, nan, inf, fin, Format, binary64, prec, emax, low, up, down,
 use lib.Ieee.Fits.{down-pos, and-l, and-r}
 use lib.Ieee.Scale.{overflow}
 use lib.Ieee.Bits.{ofBits-toBits}
-use borrow.Author.Tests.{lt-ltb, le-ltb, eq-eqb, ne-eqb}
+use borrow.Author.Tests.{lt-ltb, le-ltb, le-leb, lt-leb, eq-eqb, ne-eqb}
 use Rattle.order.specs.Order.{smaller, atMost, equal, finite, plusZero, withPlusZero}
 use Rattle.order.proofs.Booleans.{iff-ltb, leb-not, and-left, and-right}
 
@@ -177,6 +177,19 @@ equal-key x y p q t =
     let two = leb→le (key y) (key x) (subst (λ (b : Bool). T b) (atMost-key y x q p) (and-right (atMost x y) (atMost y x) t)) in
     omega (arith, one, two)
 
+-- and only those
+pub equal-is : (x y : Float) → T (finite x) → T (finite y) → equal x y ≡ eqb (key x) (key y)
+equal-is x y p q = ap₂ (λ (a b : Bool). a && b) (atMost-key x y p q) (atMost-key y x q p) ∙ both (key x) (key y) (decLt (key x) (key y)) (decLt (key y) (key x))
+  where
+    both : (a b : ℕ) → Dec (a < b) → Dec (b < a) → (leb a b && leb b a) ≡ eqb a b
+    both a b (yes g) h = rw (le-leb a b (omega arith), lt-leb b a g, ne-eqb a b (λ q. omega arith))
+    both a b (no g) (yes h) = rw (lt-leb a b h, ne-eqb a b (λ q. omega arith))
+    both a b (no g) (no h) = rw (le-leb a b (omega (arith, h)), le-leb b a (omega (arith, g)), eq-eqb a b (omega (arith, g, h)))
+
+-- a value equals itself
+pub equal-self : (x : Float) → T (finite x) → equal x x ≡ true
+equal-self x p = equal-is x x p p ∙ eq-eqb (key x) (key x) refl
+
 -- ---- plus zero for either zero
 
 -- minus zero and zero are equal, and the one that is given is plus zero
@@ -213,6 +226,9 @@ withPlusZero-key (inf s) = refl
 withPlusZero-key (fin s zero e) =
     zero-signed false (overflow binary64) (mag binary64 0 (pos 0)) (zero-mag binary64 (pos 0)) ∙ sym (zero-signed s (overflow binary64) (mag binary64 0 e) (zero-mag binary64 e))
 withPlusZero-key (fin s (suc m) e) = refl
+
+pub equal-withPlusZero : (x y : Float) → T (finite x) → T (finite y) → equal x (withPlusZero y) ≡ equal x y
+equal-withPlusZero x y p q = equal-is x (withPlusZero y) p (withPlusZero-finite y q) ∙ ap (eqb (key x)) (withPlusZero-key y) ∙ sym (equal-is x y p q)
 
 pub withPlusZero-twice : (x : Float) → withPlusZero (withPlusZero x) ≡ withPlusZero x
 unfolding withPlusZero

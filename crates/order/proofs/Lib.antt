@@ -1,6 +1,7 @@
 pub mod Booleans
 pub mod Counts
 pub mod Lists
+pub mod Firsts
 pub mod Slices
 pub mod Keys
 pub mod Infinities

@@ -3,7 +3,9 @@
 --   rowsOf m n xs     the m rows of n members each that a list holds, row after row
 --   joined rows       rows, one after the other
 --   padded n d xs     xs with d in the places up to n
+--   firstAt p xs      the place of the first member that passes a test, from 0; the number of members where none does
 use Prim.Native.Nat.{ℕ, zero, suc, _-_}
+use mathlib.Core.Bool.{Bool, cond}
 use mathlib.Core.List.{List, [], _∷_, _++_}
 use lib.ListN.{length, take, drop, replicate}
 
@@ -21,3 +23,7 @@ joined (r ∷ rs) = r ++ joined rs
 
 abbrev pub padded : {A : Type 0} → ℕ → A → List A → List A
 padded n d xs = xs ++ replicate (n - length xs) d
+
+unfoldable pub firstAt : {A : Type 0} → (A → Bool) → List A → ℕ
+firstAt p [] = 0
+firstAt p (x ∷ xs) = cond (p x) 0 (suc (firstAt p xs))

@@ -1,10 +1,14 @@
 // The order of f64 values: which are finite, plus zero for either zero, and their places in the 64-bit order.
 // The definitions are in specs/, their laws in proofs/.
 mod bits; // the 64-bit order
+mod equals; // a value looked for among others
 mod pairs; // two values compared
 
 pub use bits::bits_place;
 pub use bits::value_at;
+pub use equals::first_equal;
+pub use equals::has_equal;
+pub use pairs::equal;
 pub use pairs::larger;
 pub use pairs::lesser;
 pub use pairs::one_where;

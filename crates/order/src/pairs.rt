@@ -1,6 +1,6 @@
 // Two values compared, each function in a form that the compiler makes one instruction without a branch.
 ghost use mathlib.Core.Path.{_≡_};
-ghost use Rattle.order.specs.Order.{atMost, larger, lesser};
+ghost use Rattle.order.specs.Order.{atMost, equal, larger, lesser};
 ghost use Rattle.order.specs.Counting.{bit};
 
 // The larger of two values, the first of equals.
@@ -31,4 +31,14 @@ pub fn one_where(v: f64, x: f64) -> usize
         return 1;
     }
     0
+}
+
+// Whether two values are equal as numbers: minus zero and zero are.
+pub fn equal(x: f64, y: f64) -> bool
+    ensures { λ r. ⌜ r ≡ equal x y ⌝ }
+{
+    if x <= y {
+        return y <= x;
+    }
+    false
 }

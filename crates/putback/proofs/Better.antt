@@ -12,7 +12,8 @@ use Rattle.order.specs.Order.{smaller}
 use Rattle.order.specs.Counting.{all}
 use Rattle.order.proofs.Booleans.{and-left, and-right}
 use Rattle.columns.specs.Columns.{Columns, maskOf}
-use Rattle.putback.specs.Internal.{Best, better, bestOf}
+use Rattle.putback.specs.Internal.{better, bestOf}
+use Rattle.putback.specs.declared.walk.Best.{Best}
 
 module _ (f : Columns → Float) where
   -- with one set more

@@ -4,3 +4,5 @@ pub mod Pruning
 pub mod Walking
 pub mod Beginning
 pub mod PutBackValue
+pub mod FirstBest
+pub mod BarOf

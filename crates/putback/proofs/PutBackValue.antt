@@ -1,5 +1,5 @@
 -- The largest of critical values, met one by one.
---   same-best, risen-best     from any bound that it is above, and from minus infinity
+--   same-best         from any bound that it is above, and from minus infinity
 --   put-back-value    the put-back critical value; one-value, one-left: of one set
 use Prim.Native.Nat.{ℕ, zero, suc, _+_, _-_, _≤_, _<_}
 use native.Mathlib.Omega.{arith}
@@ -19,11 +19,11 @@ use Rattle.order.proofs.Infinities.{finite-low, low-finite, smaller-low}
 use Rattle.order.proofs.Keys.{key, key-some}
 use Rattle.order.proofs.Rows.{Finite, Sound, rowsOf-sound}
 use Rattle.select.specs.Rank.{kthLargest}
-use Rattle.select.proofs.Ranks.{above, from, kthLargest-is, mthSmallest-plain}
+use Rattle.select.proofs.Ranks.{above, from, kthLargest-is}
 use Rattle.columns.specs.Columns.{Columns, size, _∪_, choose, columnsOf}
 use Rattle.columns.proofs.PutBack.{choose-some}
-use Rattle.method.specs.Method.{kMax, criticalValue, putBack}
-use Rattle.method.proofs.Critical.{criticalValue-finite}
+use Rattle.method.specs.Method.{criticalValue, putBack}
+use Rattle.method.proofs.Critical.{criticalValue-finite, criticalValue-plain}
 use Rattle.masks.specs.Internal.{CheckedTable}
 use Rattle.putback.specs.Internal.{bestOf, setsOf}
 use Rattle.putback.specs.declared.branch.Branch.{Branch}
@@ -58,7 +58,7 @@ larger-low : (b c : Float) → T (low b) → T (finite c) → T (low (larger b c
 larger-low b c l f = larger-holds (λ x. T (low x)) b c l (finite-low c f)
 
 -- no member lies above the best
-best-least : (b : Float) (cs : List Float) → T (low b) → Finite cs → (key b ≤ key (bestOf b cs)) × (above (key (bestOf b cs)) cs ≡ 0)
+pub best-least : (b : Float) (cs : List Float) → T (low b) → Finite cs → (key b ≤ key (bestOf b cs)) × (above (key (bestOf b cs)) cs ≡ 0)
 unfolding bestOf count all
 best-least b [] l fs = (omega arith, refl)
 best-least b (c ∷ cs) l fs =
@@ -83,13 +83,13 @@ unfolding key
 lowest-below x f = smaller-low (inf true) x tt (finite-low x f) ∙ lt-ltb 0 (key x) (key-some x f)
 
 module _ {A : Type 0} (f : A → Float) where
-  best-holds : (P : Float → Type 0) (b : Float) (l : List A) → P b → ((x : A) → P (f x)) → P (bestOf b (map f l))
+  pub best-holds : (P : Float → Type 0) (b : Float) (l : List A) → P b → ((x : A) → P (f x)) → P (bestOf b (map f l))
   unfolding bestOf
   best-holds P b [] p h = p
   best-holds P b (x ∷ l) p h = best-holds P (larger b (f x)) l (larger-holds P b (f x) p (h x)) h
 
   -- where it is above the bound it is a member
-  best-member : (P : Float → Type 0) (b : Float) (l : List A) → key b < key (bestOf b (map f l)) → ((x : A) → P (f x)) → P (bestOf b (map f l))
+  pub best-member : (P : Float → Type 0) (b : Float) (l : List A) → key b < key (bestOf b (map f l)) → ((x : A) → P (f x)) → P (bestOf b (map f l))
   unfolding bestOf
   best-member P b [] r h = absurd (omega arith)
   best-member P b (x ∷ l) r h = go (smaller b (f x)) r (λ q. best-member P b l q h)
@@ -98,13 +98,13 @@ module _ {A : Type 0} (f : A → Float) where
       go true r ih = best-holds P (f x) l (h x) h
       go false r ih = ih r
 
-  all-finite : ((x : A) → T (finite (f x))) → (l : List A) → Finite (map f l)
+  pub all-finite : ((x : A) → T (finite (f x))) → (l : List A) → Finite (map f l)
   unfolding all
   all-finite h [] = tt
   all-finite h (x ∷ l) = and-both (finite (f x)) (all finite (map f l)) (h x) (all-finite h l)
 
   -- of some values it is above minus infinity
-  lowest-under : ((x : A) → T (finite (f x))) → (l : List A) → 0 < length (map f l) → key (inf true) < key (bestOf (inf true) (map f l))
+  pub lowest-under : ((x : A) → T (finite (f x))) → (l : List A) → 0 < length (map f l) → key (inf true) < key (bestOf (inf true) (map f l))
   unfolding bestOf key
   lowest-under h [] p = absurd (omega arith)
   lowest-under h (x ∷ l) p = omega (
@@ -159,19 +159,13 @@ module _ (n k e : ℕ) (X : List (List Float)) (sound : Sound n X) where
   values-finite K = criticalValue-finite n k e X K sound
 
   pub values-plain : (K : Columns) → withPlusZero (criticalValue k e X K) ≡ criticalValue k e X K
-  unfolding criticalValue
-  values-plain K = mthSmallest-plain (length X - e) (map (λ row. kMax k K row) X)
+  values-plain K = criticalValue-plain k e X K
 
 -- ---- a checked table
 
 module _ {t : List Float} {rows cols k : ℕ} (e : ℕ) (r : CheckedTable t rows cols k) where
   sound : Sound cols (rowsOf rows cols t)
   sound = rowsOf-sound rows cols t (r .full) (r .finitely)
-
-  -- from a bound below it, and from minus infinity
-  pub risen-best : (b : Branch) (v : Float) {x : Float} → T (low v) → smaller v x ≡ true → x ≡ bestOf v (map (λ K. criticalValue k e (rowsOf rows cols t) K) (setsOf cols b)) → x ≡ bestOf (inf true) (map (λ K. criticalValue k e (rowsOf rows cols t) K) (setsOf cols b))
-  risen-best b v w g q = q ∙ same-best (λ K. criticalValue k e (rowsOf rows cols t) K) (values-finite cols k e (rowsOf rows cols t) sound) (values-plain cols k e (rowsOf rows cols t) sound) (setsOf cols b) v w
-      (subst (λ (y : Float). T (smaller v y)) q (true-T (smaller v _) g))
 
   pub put-back-value : (remaining rejected : ℕ) {x : Float} → k - 1 ≤ size (columnsOf cols rejected)
       → x ≡ bestOf (inf true) (map (λ K. criticalValue k e (rowsOf rows cols t) K) (setsOf cols (record { set = remaining; rest = rejected; from = 0; left = k - 1 })))

@@ -7,7 +7,8 @@ use mathlib.Core.Path.{_≡_, sym, ap, ap₂, _∙_, subst}
 use mathlib.Core.List.{[], _∷_}
 use lib.Ieee.{Float}
 use Rattle.columns.specs.Columns.{Columns, columnsOf}
-use Rattle.putback.specs.Internal.{Best, better, setsOf, with, without, At}
+use Rattle.putback.specs.Internal.{better, setsOf, with, without, At}
+use Rattle.putback.specs.declared.walk.Best.{Best}
 use Rattle.putback.specs.declared.branch.Branch.{Branch}
 use Rattle.putback.proofs.Better.{better-append}
 use Rattle.putback.proofs.Branches.{sets-leaf, sets-none, sets-past, sets-in, next-fits, chosen-is, rest-falls, at-with, at-without}

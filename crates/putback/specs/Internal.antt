@@ -1,7 +1,7 @@
 -- Definitions that only the inner functions cite. Definitions only; a reader of the promises needs none of them.
---   Best                 a value, and the mask of the set that gave it
 --   better f b Ks        the best of b and the values f K of some sets, each with its set: strictly larger replaces, equal does not
 --   bestOf b cs          the largest of b and some values
+--   barOf k e X Ks c     a critical value c, the mask of the first of the sets Ks that gives it, and the lowest row whose k-max over that set equals it
 --   setsOf cols b        the sets of a branch, in the order of the walk
 --   with, without b      the branches in which the next column is chosen, and in which it is passed over
 --   unite b              the mask of all columns of a branch
@@ -18,18 +18,17 @@ use lib.Ieee.{Float}
 use Rattle.order.specs.Order.{smaller, larger}
 use Rattle.order.specs.Lists.{rowsOf}
 use Rattle.columns.specs.Columns.{Columns, size, _∪_, choose, columnsOf, maskOf}
+use Rattle.method.specs.Bars.{barSet, barRow}
 use Rattle.masks.specs.Internal.{CheckedTable, Walk}
 use Rattle.masks.specs.Marks.{holding}
 use Rattle.critical.specs.Internal.{Marked}
 use Rattle.critical.specs.declared.Figures.{Figures}
 use Rattle.putback.specs.declared.branch.Branch.{Branch}
 use Rattle.putback.specs.declared.walk.Held.{Held}
+use Rattle.putback.specs.declared.walk.Best.{Best}
+use Rattle.putback.specs.declared.Bar.{Bar}
 
 -- ---- the best set
-
-pub record Best : Type 0 where
-  pub value : Float
-  pub set : ℕ
 
 unfoldable pub better : (Columns → Float) → Best → List Columns → Best
 unfolding maskOf
@@ -39,6 +38,10 @@ better f b (K ∷ Ks) = better f (cond (smaller (b .value) (f K)) (record { valu
 unfoldable pub bestOf : Float → List Float → Float
 bestOf b [] = b
 bestOf b (c ∷ cs) = bestOf (larger b c) cs
+
+unfoldable pub barOf : ℕ → ℕ → List (List Float) → List Columns → Float → Bar
+unfolding barSet barRow maskOf
+barOf k e X Ks c = let K = barSet k e X Ks c in record { value = c; set = maskOf K; row = barRow k X K c }
 
 -- ---- branches
 

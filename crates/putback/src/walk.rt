@@ -13,6 +13,12 @@ ghost use Rattle.method.specs.Method.{criticalValue};
 ghost use Rattle.masks.specs.Marks.{holding};
 ghost use Rattle.putback.specs.Internal.{Going, At, best, better, setsOf, unite, hopelessIn};
 
+// A value, and the set that gave it first.
+pub struct Best {
+    pub value: f64,
+    pub set: u32,
+}
+
 // The best value so far, the set that gave it first, how many rows are marked by it, and whether the last set rose.
 pub struct Held {
     pub value: f64,

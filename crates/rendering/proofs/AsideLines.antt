@@ -31,7 +31,7 @@ use Rattle.trialrun.specs.TrialRuns.{trialStart}
 use Rattle.trialrun.proofs.Aside.{aside-verdict, aside-count, few-none, few-told}
 use Rattle.text.specs.Ascii.{ascii}
 use Rattle.text.specs.Text.{printed, decimal, line}
-use Rattle.rendering.specs.Reports.{offerLine, decisionAt, offerLineAt}
+use Rattle.rendering.specs.Reports.{codeAt, offerLine, decisionAt, offerLineAt}
 
 module _ (t : Trial) (X : List (List Float)) (i : ℕ) (h : i < t .shape .offers) where
   abbrev run : Outcome
@@ -45,15 +45,15 @@ module _ (t : Trial) (X : List (List Float)) (i : ℕ) (h : i < t .shape .offers
 
   pub aside-line : T (untested (t .shape .design) (figuresAt t i))
       → offerLineAt (t .labels) (acceptedRun (fullRun X (trialStart t))) i ≡ line (printed (getD (t .labels .digits) i 0) (getD (t .labels .codes) i 0)) (ascii "aside" ∷ decimal 0 ∷ decimal 0 ∷ [])
-  aside-line q = ap₂ (λ (v : Verdict) (n : ℕ). offerLine (getD (t .labels .codes) i 0) (getD (t .labels .digits) i 0) v (acceptedRun run .steps) n)
+  aside-line q = ap₂ (λ (v : Verdict) (n : ℕ). offerLine (codeAt (t .labels) i) v (acceptedRun run .steps) n)
       (verdict-is Aside (aside-verdict t X i h q (Kept plusZero))) (count-is ∙ aside-count t X i h q)
 
   pub few-line : untested (t .shape .design) (figuresAt t i) ≡ false → size (liveOffers t) < t .shape .k
       → offerLineAt (t .labels) (acceptedRun (fullRun X (trialStart t))) i ≡ line (printed (getD (t .labels .digits) i 0) (getD (t .labels .codes) i 0)) (ascii "kept" ∷ decimal 0 ∷ decimal (getD (fullRun X (trialStart t) .counts) i 0) ∷ [])
   unfolding acceptedRun
   few-line q few =
-      ap₂ (λ (v : Verdict) (n : ℕ). offerLine (getD (t .labels .codes) i 0) (getD (t .labels .digits) i 0) v (acceptedRun run .steps) n) (verdict-is (Kept plusZero) (few-told t X i h q few (Kept plusZero))) count-is
-      ∙ ap (λ (rs : List Record). offerLine (getD (t .labels .codes) i 0) (getD (t .labels .digits) i 0) (Kept plusZero) (length rs) (getD (run .counts) i 0)) (few-none t X few)
+      ap₂ (λ (v : Verdict) (n : ℕ). offerLine (codeAt (t .labels) i) v (acceptedRun run .steps) n) (verdict-is (Kept plusZero) (few-told t X i h q few (Kept plusZero))) count-is
+      ∙ ap (λ (rs : List Record). offerLine (codeAt (t .labels) i) (Kept plusZero) (length rs) (getD (run .counts) i 0)) (few-none t X few)
 
 pub few-end : (t : Trial) (X : List (List Float)) → size (liveOffers t) < t .shape .k → rejectedCount (t .shape .offers) (acceptedRun (fullRun X (trialStart t)) .decisions) ≡ 0
 few-end t X few =

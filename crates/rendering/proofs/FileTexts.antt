@@ -24,10 +24,10 @@ module _ (f : FileRun) where
   text-refused h = for-refused (f .run .refusal) (trialText (f .trial) (f .run)) h
 
   pub text-report : (n : ℕ) → f .run .refusal ≡ 0 → n ≡ rejectedCount (f .trial .shape .offers) (f .run .decisions)
-      → headLine (f .trial .shape) (f .run) ++ (linesTo (f .run .steps) (stepLineAt (f .run)) ++ (linesTo (f .trial .shape .offers) (offerLineAt (f .trial .labels) (f .run)) ++ line (ascii "end") (decimal n ∷ []))) ≡ textOf f
+      → headLine (f .trial .shape) (f .run) ++ (linesTo (f .run .steps) (stepLineAt (f .trial .labels) (f .run)) ++ (linesTo (f .trial .shape .offers) (offerLineAt (f .trial .labels) (f .run)) ++ line (ascii "end") (decimal n ∷ []))) ≡ textOf f
   unfolding textOf trialText
   text-report n h e =
-      ap (λ (m : ℕ). headLine (f .trial .shape) (f .run) ++ (linesTo (f .run .steps) (stepLineAt (f .run)) ++ (linesTo (f .trial .shape .offers) (offerLineAt (f .trial .labels) (f .run)) ++ line (ascii "end") (decimal m ∷ [])))) e
+      ap (λ (m : ℕ). headLine (f .trial .shape) (f .run) ++ (linesTo (f .run .steps) (stepLineAt (f .trial .labels) (f .run)) ++ (linesTo (f .trial .shape .offers) (offerLineAt (f .trial .labels) (f .run)) ++ line (ascii "end") (decimal m ∷ [])))) e
       ∙ for-accepted (f .run .refusal) (trialText (f .trial) (f .run)) h
 
 -- what is composed for the answer of a file's full run is the file's report, by that run

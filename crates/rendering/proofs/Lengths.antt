@@ -1,6 +1,6 @@
 -- How long a report can be.
 --   report-fits, balanced-report-fits     every text is at most that long
-use Prim.Native.Nat.{ℕ, _*_, _≤_}
+use Prim.Native.Nat.{ℕ, _*_, _-_, _≤_}
 use native.Mathlib.Omega.{arith}
 use mathlib.Core.List.{List, [], _∷_, _++_}
 use lib.ListN.{length, getD, length-append}
@@ -33,15 +33,16 @@ use Rattle.rendering.proofs.PrintableFiles.{PrintableRun, plain-printab
 head-most : (s : Shape) (r : FullRun) → length (headLine s r) ≤ 111
 head-most s r = line-most (ascii "trial") 5 (omega arith) (number _ (number _ (number _ (number _ (number _ line-end)))))
 
-step-most : (m : Record) → length (stepLine m) ≤ stepLineMost
-step-most m = line-most (ascii "step") 4 (omega arith) (number _ (field (decimalInt (cents (m .critical))) 21 (int-most (cents (m .critical))) line-end))
+step-most : (m : Record) (code digits : ℕ) → digits ≤ digitsMost → length (stepLine m (printed digits code)) ≤ stepLineMost
+step-most m code digits h =
+    line-most (ascii "step") 4 (omega arith) (number _ (field (decimalInt (cents (m .critical))) 21 (int-most (cents (m .critical))) (number _ (field (printed digits code) digitsMost (omega (arith, printed-most digits code)) line-end))))
 
 word-most : (v : Verdict) → length (ascii (verdictWord v)) ≤ 8
 word-most (Rejected s c) = omega arith
 word-most (Kept c) = omega arith
 word-most Aside = omega arith
 
-offer-most : (code digits : ℕ) (v : Verdict) (last n : ℕ) → digits ≤ digitsMost → length (offerLine code digits v last n) ≤ offerLineMost
+offer-most : (code digits : ℕ) (v : Verdict) (last n : ℕ) → digits ≤ digitsMost → length (offerLine (printed digits code) v last n) ≤ offerLineMost
 offer-most code digits v last n h = line-most (printed digits code) digitsMost (omega (arith, printed-most digits code)) (field (ascii (verdictWord v)) 8 (word-most v) (number (verdictStep last v) (number n line-end)))
 
 -- ---- the report
@@ -52,9 +53,10 @@ trial-fits f p =
     let t = f .trial in
     let r = f .run in
     let end = line (ascii "end") (decimal (rejectedCount (t .shape .offers) (r .decisions)) ∷ []) in
-    let steps = linesTo (r .steps) (stepLineAt r) in
+    let steps = linesTo (r .steps) (stepLineAt (t .labels) r) in
     let offers = linesTo (t .shape .offers) (offerLineAt (t .labels) r) in
-    let a : length steps ≤ r .steps * stepLineMost = lines-most (r .steps) stepLineMost (stepLineAt r) (λ i _. step-most (recordAt r i)) in
+    let a : length steps ≤ r .steps * stepLineMost = lines-most (r .steps) stepLineMost (stepLineAt (t .labels) r)
+    (λ i l. let j = recordAt r i .offer - 1 in let q = p .run-printable .named i l in step-most (recordAt r i) (getD (t .labels .codes) j 0) (getD (t .labels .digits) j 0) (p .digits-few j (omega (arith, q .0, q .1)))) in
     let b : length offers ≤ t .shape .offers * offerLineMost = lines-most (t .shape .offers) offerLineMost (offerLineAt (t .labels) r) (λ i l. offer-most (getD (t .labels .codes) i 0) (getD (t .labels .digits) i 0) (decisionAt r i .verdict) (r .steps) (getD (r .counts) i 0) (p .digits-few i l)) in
     omega (arith, length-append (headLine (t .shape) r) (steps ++ (offers ++ end)), length-append steps (offers ++ end), length-append offers end, a, b, head-most (t .shape) r, numbered-most (ascii "end") (rejectedCount (t .shape .offers) (r .decisions)) 3 (omega arith), p .run-printable .few-steps, p .offers-most)
 

@@ -9,7 +9,7 @@ use native.Mathlib.Omega.{arith}
 use mathlib.Core.Path.{_≡_, sym, ap, _∙_, subst}
 use mathlib.Core.Bool.{Bool, _&&_}
 use mathlib.Core.List.{List}
-use lib.ListN.{length, length-map, replicate, List·getD-append}
+use lib.ListN.{length, getD, length-map, replicate, List·getD-append}
 use lib.Dec.{T, le→leb, lt→ltb}
 use lib.IntN.{ℤ, pos, negsuc, natAbs}
 use lib.Ieee.{Float, nan, binary64, fits, inSigned, inFloat, ofInt}
@@ -33,14 +33,15 @@ use Rattle.trial.specs.Exchange.{rowTotal, rowOf, trialRows}
 use Rattle.trial.specs.Refusals.{trialRefusal}
 use Rattle.trial.specs.declared.Trial.{Trial}
 use Rattle.trial.proofs.Accepted.{Accepted, accepted}
-use Rattle.trial.proofs.Tables.{rowOf-all, trialRows-length}
+use Rattle.trial.proofs.Tables.{rowOf-all, trialRows-length, trialRows-sound}
 use Rattle.words.specs.Words.{wordsOf}
 use Rattle.trialfile.specs.Files.{trialOf, fileChecks, fileRefusal}
 use Rattle.trialfile.proofs.Taken.{read-accepted}
 use Rattle.trialfile.proofs.Inputs.{digits-few}
 use Rattle.balance.specs.Balance.{balancedRows}
-use Rattle.balance.proofs.Balanced.{balanced-all}
+use Rattle.balance.proofs.Balanced.{balanced-all, balanced-sound, balancedRows-length}
 use Rattle.trialrun.specs.TrialRuns.{trialStart, trialRun}
+use Rattle.trialrun.proofs.Bars.{trial-offer}
 use Rattle.trialbalance.specs.TrialBalance.{trialBalancedRun}
 use Rattle.trialrun.specs.FileRuns.{refusedFile, acceptedBy, fileBy}
 use Rattle.trialrun.specs.declared.FileRun.{FileRun}
@@ -81,39 +82,49 @@ module _ (X : List (List Float)) (r : State) where
   unfolding fullRun
   records-few = omega (arith, length-map (stepsOf X r) (λ (x : Step). x .logged), steps-few X r)
 
-  module _ (wholes : T (all (all wholeCents) X)) where
+  module _ (wholes : T (all (all wholeCents) X)) (n : ℕ)
+      (named : (i : ℕ) → i < length (fullRun X r .records) → (d : Record) → (0 < getD (fullRun X r .records) i d .offer) × (getD (fullRun X r .records) i d .offer ≤ n)) where
+    abbrev blank : Record
+    blank = record { step = 0; critical = nan; row = 0; offer = 0 }
+
+    record-there : (i : ℕ) → i < length (fullRun X r .records) → recordAt (acceptedRun (fullRun X r)) i ≡ getD (fullRun X r .records) i (record { step = 0; critical = nan; row = 0; offer = 0 })
+    unfolding acceptedRun
+    record-there i h = let rs = fullRun X r .records in List·getD-append rs (replicate (stepsMost - length rs) noRecord) blank i h
+
     abbrev criticalAt : ℕ → Float
     criticalAt i = recordAt (acceptedRun (fullRun X r)) i .critical
 
     record-whole : (i : ℕ) → i < length (fullRun X r .records) → T (wholeCents (recordAt (acceptedRun (fullRun X r)) i .critical))
-    unfolding acceptedRun
     record-whole i h =
-        let d : Record = record { step = 0; critical = nan } in
-        let rs = fullRun X r .records in
-        subst (λ (m : Record). T (wholeCents (m .critical))) (sym (List·getD-append rs (replicate (stepsMost - length rs) noRecord) d i h))
-        (all-getD (λ m. wholeCents (m .critical)) rs i d h (records-hold wholeCents zero-whole X wholes r))
+        subst (λ (m : Record). T (wholeCents (m .critical))) (sym (record-there i h)) (all-getD (λ m. wholeCents (m .critical)) (fullRun X r .records) i blank h (records-hold wholeCents zero-whole X wholes r))
 
-    run-printable : Printable (acceptedRun (fullRun X r))
+    run-printable : Printable n (acceptedRun (fullRun X r))
     unfolding acceptedRun wholeCents
     run-printable = record {
       few-steps = records-few;
       whole = λ i h. and-right (fits binary64 (criticalAt i)) (inSigned binary64 63 (criticalAt i)) (record-whole i h);
       held = λ i h. and-left (fits binary64 (criticalAt i)) (inSigned binary64 63 (criticalAt i)) (record-whole i h);
+      named = λ i h. subst (λ (m : Record). (0 < m .offer) × (m .offer ≤ n)) (sym (record-there i h)) (named i h blank);
     }
 
 -- ---- the runs of an accepted trial
 
 abbrev pub PrintableRun : (Trial → Outcome) → Type 0
-PrintableRun run = (t : Trial) → trialRefusal t ≡ 0 → Printable (acceptedRun (run t))
+PrintableRun run = (t : Trial) → trialRefusal t ≡ 0 → Printable (t .shape .offers) (acceptedRun (run t))
 
 pub plain-printable : PrintableRun trialRun
 unfolding trialRun
-plain-printable t h = run-printable (trialRows t) (trialStart t) (rows-whole t (accepted t h))
+plain-printable t h =
+    let acc = accepted t h in
+    run-printable (trialRows t) (trialStart t) (rows-whole t acc) (t .shape .offers) (λ i l d. let o = trial-offer t acc (trialRows t) (trialRows-sound t acc) (trialRows-length t) i l d in (o .1, o .2))
 
 pub balanced-printable : PrintableRun trialBalancedRun
 unfolding trialBalancedRun
-balanced-printable t h = run-printable (balancedRows (trialRows t)) (trialStart t)
-    (balanced-all (trialRows t) wholeCents (λ m l. ofInt-whole (pos m) (omega (arith, trialRows-length t, rows-few t (accepted t h)))))
+balanced-printable t h =
+    let acc = accepted t h in
+    run-printable (balancedRows (trialRows t)) (trialStart t)
+    (balanced-all (trialRows t) wholeCents (λ m l. ofInt-whole (pos m) (omega (arith, trialRows-length t, rows-few t acc)))) (t .shape .offers)
+    (λ i l d. let o = trial-offer t acc (balancedRows (trialRows t)) (balanced-sound (t .shape .offers) (trialRows t) (trialRows-sound t acc) (omega (arith, trialRows-length t, rows-few t acc))) (balancedRows-length (trialRows t) ∙ trialRows-length t) i l d in (o .1, o .2))
 
 -- the printed number is the critical value: nothing is cut off
 module _ (run : Trial → Outcome) (p : PrintableRun run) where

@@ -13,6 +13,6 @@ pub verdict-is : (last : ℕ) {v u : Verdict} → v ≡ u → ascii (verdictWord
 verdict-is last e = ap (λ (x : Verdict). ascii (verdictWord x) ++ (ascii " " ++ decimal (verdictStep last x))) (sym e)
 
 pub offer-is : (code digits : ℕ) (v : Verdict) (last n : ℕ)
-    → printed digits code ++ (ascii " " ++ ((ascii (verdictWord v) ++ (ascii " " ++ decimal (verdictStep last v))) ++ afterFirst (decimal n ∷ []))) ≡ offerLine code digits v last n
+    → printed digits code ++ (ascii " " ++ ((ascii (verdictWord v) ++ (ascii " " ++ decimal (verdictStep last v))) ++ afterFirst (decimal n ∷ []))) ≡ offerLine (printed digits code) v last n
 offer-is code digits v last n =
     ap (λ (ys : List ℕ). printed digits code ++ (ascii " " ++ ys)) (append-assoc (ascii (verdictWord v)) (ascii " " ++ decimal (verdictStep last v)) (afterFirst (decimal n ∷ [])))

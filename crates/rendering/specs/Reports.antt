@@ -1,6 +1,7 @@
 -- The report's text (document 01, "Report and C call"). Definitions only.
 --   headLine s r           figures of an offer, offers and k of a shape, e and M of a full run
---   stepLine m             a step's number and critical value
+--   codeAt l i             the printed code of offer i, from 0
+--   stepLine m code        a step's number and critical value, the row that set it and the printed code of the offer that did (document 02, §5)
 --   verdictWord v          the word for a verdict
 --   verdictStep last v     the step that rejected, or the last step; 0 for an offer that is set aside (document 02, §4)
 --   offerLine ..           an offer: printed code, verdict, step, count
@@ -10,7 +11,7 @@
 --   reportBy run bytes     all that is printed for a file, by a full run of its trial: the report of that run, or the file's refusal
 --   reportOf bytes         the report: by the full run of the trial
 --   balancedReportOf bytes     the balanced report (document 02, §3): by its balanced full run, whose critical values are ranks
-use Prim.Native.Nat.{ℕ}
+use Prim.Native.Nat.{ℕ, _-_}
 use Prim.Native.String.{String}
 use mathlib.Core.List.{List, [], _∷_, _++_}
 use lib.ListN.{getD}
@@ -38,8 +39,11 @@ use Rattle.text.specs.Text.{printed, decimal, decimalInt, cents, line, linesTo,
 abbrev pub headLine : Shape → FullRun → List ℕ
 headLine s r = line (ascii "trial") (decimal (unitsOf (s .design)) ∷ decimal (s .offers) ∷ decimal (s .k) ∷ decimal (r .e) ∷ decimal (r .rows) ∷ [])
 
-abbrev pub stepLine : Record → List ℕ
-stepLine m = line (ascii "step") (decimal (m .step) ∷ decimalInt (cents (m .critical)) ∷ [])
+abbrev pub codeAt : Labels → ℕ → List ℕ
+codeAt l i = printed (getD (l .digits) i 0) (getD (l .codes) i 0)
+
+abbrev pub stepLine : Record → List ℕ → List ℕ
+stepLine m code = line (ascii "step") (decimal (m .step) ∷ decimalInt (cents (m .critical)) ∷ decimal (m .row) ∷ code ∷ [])
 
 abbrev pub verdictWord : Verdict → String
 verdictWord (Rejected s c) = "rejected"
@@ -51,27 +55,27 @@ verdictStep last (Rejected s c) = s
 verdictStep last (Kept c) = last
 verdictStep last Aside = 0
 
-abbrev pub offerLine : ℕ → ℕ → Verdict → ℕ → ℕ → List ℕ
-offerLine code digits v last n = line (printed digits code) (ascii (verdictWord v) ∷ decimal (verdictStep last v) ∷ decimal n ∷ [])
+abbrev pub offerLine : List ℕ → Verdict → ℕ → ℕ → List ℕ
+offerLine code v last n = line code (ascii (verdictWord v) ∷ decimal (verdictStep last v) ∷ decimal n ∷ [])
 
 -- the line of step i and of offer i, from 0; no line looks beyond the arrays' ends
 abbrev pub recordAt : FullRun → ℕ → Record
-recordAt r i = getD (r .records) i (record { step = 0; critical = nan })
+recordAt r i = getD (r .records) i (record { step = 0; critical = nan; row = 0; offer = 0 })
 
 abbrev pub decisionAt : FullRun → ℕ → Decision
 decisionAt r i = getD (r .decisions) i (record { verdict = Rejected 0 nan })
 
-abbrev pub stepLineAt : FullRun → ℕ → List ℕ
-stepLineAt r i = stepLine (recordAt r i)
+abbrev pub stepLineAt : Labels → FullRun → ℕ → List ℕ
+stepLineAt l r i = stepLine (recordAt r i) (codeAt l (recordAt r i .offer - 1))
 
 abbrev pub offerLineAt : Labels → FullRun → ℕ → List ℕ
-offerLineAt l r i = offerLine (getD (l .codes) i 0) (getD (l .digits) i 0) (decisionAt r i .verdict) (r .steps) (getD (r .counts) i 0)
+offerLineAt l r i = offerLine (codeAt l i) (decisionAt r i .verdict) (r .steps) (getD (r .counts) i 0)
 
 unfoldable pub trialText : Trial → FullRun → List ℕ
 unfolding unitsOf linesTo rejectedCount
 trialText t r =
     headLine (t .shape) r
-    ++ (linesTo (r .steps) (stepLineAt r)
+    ++ (linesTo (r .steps) (stepLineAt (t .labels) r)
     ++ (linesTo (t .shape .offers) (offerLineAt (t .labels) r)
     ++ line (ascii "end") (decimal (rejectedCount (t .shape .offers) (r .decisions)) ∷ [])))
 

@@ -28,7 +28,7 @@ fn compose(out: &mut [u8], f: FileRun) -> usize
     let shape = t.shape;
     let labels = t.labels;
     let at = lines::head(out, shape, run);
-    let at1 = lines::steps(out, at, run);
+    let at1 = lines::steps(out, at, labels, shape.offers, run);
     let at2 = lines::offers(out, at1, labels, shape.offers, run);
     let decisions = run.decisions;
     let n = verdicts::rejected_count(decisions, shape.offers);

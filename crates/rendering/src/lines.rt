@@ -10,7 +10,7 @@ ghost use lib.ListN.{length};
 ghost use lib.Dec.{T};
 ghost use lib.Ieee.{binary64, fits, inSigned};
 ghost use Rattle.text.specs.Ascii.{ascii};
-ghost use Rattle.text.specs.Text.{decimal, linesTo};
+ghost use Rattle.text.specs.Text.{printed, decimal, linesTo};
 ghost use Rattle.text.specs.Writes.{Wrote, FewDigits};
 ghost use Rattle.rendering.specs.Reports.{headLine, stepLine, verdictWord, verdictStep, offerLine, stepLineAt, offerLineAt};
 ghost use Rattle.rendering.specs.Internal.{Printable};
@@ -32,15 +32,18 @@ pub(crate) fn head(out: &mut [u8], shape: Shape, run: FullRun) -> usize
     text::put(out, at5, b'\n')
 }
 
-// a step's number and critical value
-fn step(out: &mut [u8], at: usize, m: Record) -> usize
-    requires { ⌜ (at + stepLineMost ≤ length (now out)) × T (fits binary64 (m .critical)) × T (inSigned binary64 63 (m .critical)) ⌝ }
-    ensures { λ r. ⌜ Wrote (now (out .entry)) (now (out .exit)) at r (stepLine m) × (r ≤ at + stepLineMost) ⌝ }
+// a step's number and critical value, the row that set it, and the offer that did
+fn step(out: &mut [u8], at: usize, m: Record, code: usize, digits: usize) -> usize
+    requires { ⌜ (at + stepLineMost ≤ length (now out)) × T (fits binary64 (m .critical)) × T (inSigned binary64 63 (m .critical)) × (digits ≤ digitsMost) ⌝ }
+    ensures { λ r. ⌜ Wrote (now (out .entry)) (now (out .exit)) at r (stepLine m (printed digits code)) × (r ≤ at + stepLineMost) ⌝ }
 {
     let at1 = text::put_all(out, at, b"step");
     let at2 = text::put_field(out, at1, m.step);
     let at3 = text::put_cents(out, at2, m.critical);
-    text::put(out, at3, b'\n')
+    let at4 = text::put_field(out, at3, m.row);
+    let at5 = text::put(out, at4, b' ');
+    let at6 = text::put_printed(out, at5, code, digits);
+    text::put(out, at6, b'\n')
 }
 
 // the word for a verdict, and the step that rejected or the last step; 0 for an offer that is set aside
@@ -75,7 +78,7 @@ fn offer(
     count: usize,
 ) -> usize
     requires { ⌜ (at + offerLineMost ≤ length (now out)) × (digits ≤ digitsMost) ⌝ }
-    ensures { λ r. ⌜ Wrote (now (out .entry)) (now (out .exit)) at r (offerLine code digits v last count) × (r ≤ at + offerLineMost) ⌝ }
+    ensures { λ r. ⌜ Wrote (now (out .entry)) (now (out .exit)) at r (offerLine (printed digits code) v last count) × (r ≤ at + offerLineMost) ⌝ }
 {
     let at1 = text::put_printed(out, at, code, digits);
     let at2 = text::put(out, at1, b' ');
@@ -84,16 +87,23 @@ fn offer(
     text::put(out, at4, b'\n')
 }
 
-pub(crate) fn steps(out: &mut [u8], at: usize, run: FullRun) -> usize
-    requires { ⌜ (at ≤ headMost) × (longestReport ≤ length (now out)) × Printable run ⌝ }
-    ensures { λ r. ⌜ Wrote (now (out .entry)) (now (out .exit)) at r (linesTo (run .steps) (stepLineAt run)) × (r ≤ at + stepLineMost * stepsMost) ⌝ }
+pub(crate) fn steps(out: &mut [u8], at: usize, labels: Labels, offers: usize, run: FullRun) -> usize
+    requires { ⌜ (at ≤ headMost) × (longestReport ≤ length (now out)) × (offers ≤ offersMost) × FewDigits offers (labels .digits) × Printable offers run ⌝ }
+    ensures { λ r. ⌜ Wrote (now (out .entry)) (now (out .exit)) at r (linesTo (run .steps) (stepLineAt labels run)) × (r ≤ at + stepLineMost * stepsMost) ⌝ }
 {
     let n = run.steps;
     let mut next = at;
     let mut i: usize = 0;
     while i < n {
         let m = run.records[i];
-        next = step(out, next, m);
+        let j = m.offer - 1;
+        next = step(
+            out,
+            next,
+            m,
+            labels.codes[j] as usize,
+            labels.digits[j] as usize,
+        );
         i += 1;
     }
     next

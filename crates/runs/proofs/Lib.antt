@@ -3,6 +3,7 @@ pub mod Covers
 pub mod Start
 pub mod Termination
 pub mod Descent
+pub mod Bars
 pub mod RejectedSets
 pub mod Told
 pub mod Without

@@ -1,38 +1,46 @@
 -- Columns that are not live take part in nothing: a full run over live columns is the full run of the table without the others.
 --   Alike s u             u is the state s, seen from the live columns L alone (columns/proofs/Parts.antt)
 --   critical-alike, newly-alike, next-alike     such states have the same critical value, reject the same columns, and a step keeps them so
---   records-without       both runs leave the same records
+--   counted L m           a record whose offer is counted among the columns of L, as one whose offer is counted among all columns
+--   records-without       both runs leave the same records, but for that
 --   verdict-without, verdicts-without, counts-without     and tell the same of each live column
 --   rest-sound            the rows without the other columns
-use Prim.Native.Nat.{ℕ, zero, suc, _+_, _<_}
+use Prim.Native.Nat.{ℕ, zero, suc, _+_, _-_, _<_}
 use native.Mathlib.Omega.{arith}
 use mathlib.Core.Path.{_≡_, refl, sym, ap, ap₂, _∙_, subst}
 use mathlib.Core.Bool.{Bool, true, false, cond, _||_}
 use mathlib.Core.List.{List, [], _∷_, map}
 use lib.ListN.{length, getD, length-map}
 use lib.Seq.{ext-getD}
-use lib.Dec.{ltb, eqb}
+use lib.Dec.{T, ltb, eqb}
 use lib.Ieee.{Float, nan}
 use Rattle.order.specs.Order.{plusZero, finite, smaller}
 use Rattle.order.specs.Counting.{all}
 use Rattle.order.proofs.Booleans.{and-left, and-right, and-both}
 use Rattle.order.proofs.Lists.{getD-map}
 use Rattle.order.proofs.Rows.{Sound, soundRow, sound-length, sound-finite, sound-row}
-use Rattle.columns.specs.Columns.{Columns, size, _∪_, _∩_, _∖_, within, over, inSet, columnsOf, fullMask}
+use Rattle.columns.specs.Columns.{Columns, size, _∪_, _∩_, _∖_, within, over, choose, inSet, columnsOf, fullMask}
 use Rattle.columns.proofs.Sets.{has, has-all, _⊆_, ⊆-refl, ⊆-length, ∪-in, ∩-in, ∖-in, within-length, within-all, empty-in}
 use Rattle.columns.proofs.Masks.{columnsOf-length, columnsOf-none, has-columnsOf, full-columns}
 use Rattle.columns.proofs.Parts.{within-map, within-∪, within-∩, within-∖, within-size, within-self, position, position-lt, position-in, within-at}
-use Rattle.method.specs.Method.{putBack, atLeast}
-use Rattle.method.proofs.Parts.{critical-part, putBack-part, atLeast-part}
-use Rattle.runs.specs.Stepdown.{liveSet, rejectedSet, leftOver, firstState, stepCritical, criticalOf, newlyRejected, endsAfter, next, recordOf, stepsFrom, stepsOf, verdictFrom, verdictOf, fullRun}
+use Rattle.method.specs.Method.{criticalValue, putBack, atLeast}
+use Rattle.method.specs.Bars.{kMaxColumn, barSet, barRow}
+use Rattle.method.proofs.Bars.{alone-set}
+use Rattle.method.proofs.Parts.{critical-part, putBack-part, atLeast-part, kMaxColumn-part, barRow-part, barSet-part}
+use Rattle.runs.specs.Stepdown.{liveSet, rejectedSet, leftOver, firstState, stepCritical, criticalOf, stepSets, barSetOf, barRowOf, barOfferOf, newlyRejected, endsAfter, next, recordOf, stepsFrom, stepsOf, verdictFrom, verdictOf, fullRun}
 use Rattle.runs.specs.declared.State.{State}
 use Rattle.runs.specs.declared.Record.{Record}
 use Rattle.runs.specs.declared.Step.{Step}
 use Rattle.runs.specs.declared.Verdict.{Verdict}
 use Rattle.runs.specs.declared.Verdict.the-variants.{Rejected, Kept}
-use Rattle.runs.proofs.Steps.{seenRow, at-column, seen-length, newly-is, over-left, both-length, next-rejected}
+use Rattle.runs.proofs.Steps.{seenRow, at-column, critical-first, seen-length, newly-is, over-left, both-length, next-rejected}
 use Rattle.runs.proofs.Start.{full-size}
+use Rattle.runs.proofs.Bars.{Ready, ready-next, ready-first, bar-inside, row-below, row-sound}
 use Rattle.runs.proofs.Told.{verdicts-length, counts-length, verdict-live, count-live}
+
+-- a record whose offer is counted among the columns of L, as one whose offer is counted among all columns
+abbrev pub counted : Columns → Record → Record
+counted L m = record { step = m .step; critical = m .critical; row = m .row; offer = position L (m .offer - 1) + 1 }
 
 module _ (X : List (List Float)) (n : ℕ) (sound : Sound n X) (L : Columns) (len : length L ≡ n) where
   -- the table without the columns outside L
@@ -134,9 +142,59 @@ module _ (X : List (List Float)) (n : ℕ) (sound : Sound n X) (L : Columns) (le
       seen = a .seen;
     }
 
-    record-alike : recordOf Y u ≡ recordOf X s
+    number-alike : recordOf Y u .step ≡ recordOf X s .step
     unfolding recordOf
-    record-alike = ap₂ (λ (m : ℕ) (c : Float). record { step = m + 1; critical = c }) (a .steps-same) critical-alike
+    number-alike = ap (λ (m : ℕ). m + 1) (a .steps-same)
+
+    value-alike : recordOf Y u .critical ≡ recordOf X s .critical
+    unfolding recordOf
+    value-alike = critical-alike
+
+    -- ---- who set the critical value
+
+    set-alike : barSetOf Y u ≡ within L (barSetOf X s)
+    unfolding barSetOf
+    set-alike =
+        ap₂ (λ (k e : ℕ). barSet k e Y (stepSets k (liveSet u) (rejectedSet u) (u .steps)) (criticalOf Y u)) (a .k-same) (a .e-same)
+        ∙ ap₂ (λ (A B : Columns). barSet (s .k) (s .e) Y (stepSets (s .k) A B (u .steps)) (criticalOf Y u)) (a .all-live) (a .rejected-same)
+        ∙ ap₂ (λ (m : ℕ) (c : Float). barSet (s .k) (s .e) Y (stepSets (s .k) (within L L) (within L R) m) c) (a .steps-same) critical-alike
+        ∙ by-steps (s .steps) refl
+        ∙ ap (λ (A : Columns). within L (barSet (s .k) (s .e) X (stepSets (s .k) A R (s .steps)) (criticalOf X s))) (sym (a .live-are))
+      where
+        by-steps : (m : ℕ) → s .steps ≡ m → barSet (s .k) (s .e) Y (stepSets (s .k) (within L L) (within L R) m) (criticalOf X s) ≡ within L (barSet (s .k) (s .e) X (stepSets (s .k) L R m) (criticalOf X s))
+        by-steps zero z =
+            let c : criticalOf X s ≡ criticalValue (s .k) (s .e) X L = critical-first X s z ∙ ap (criticalValue (s .k) (s .e) X) (a .live-are) in
+            alone-set (size L) (s .k) (s .e) Y (within L L) (rest-sound X sound) (criticalOf X s) (c ∙ sym (critical-part n (s .k) (s .e) X sound L len (⊆-refl L)))
+            ∙ sym (ap (within L) (alone-set n (s .k) (s .e) X L sound (criticalOf X s) c))
+        by-steps (suc m) z = ap (λ (A : Columns). barSet (s .k) (s .e) Y (map (λ I. A ∪ I) (choose (s .k - 1) (within L R))) (criticalOf X s)) (sym (within-∖ L L R even)) ∙ barSet-part n (s .k) (s .e) X sound L len left-in (a .inside) (criticalOf X s)
+
+    module _ (w : Ready X s) where
+      bar-in : barSetOf X s ⊆ L
+      bar-in = subst (λ (A : Columns). barSetOf X s ⊆ A) (a .live-are) (bar-inside X s w)
+
+      row-same : barRowOf Y u ≡ barRowOf X s
+      unfolding barRowOf
+      row-same =
+          ap₂ (λ (k : ℕ) (K : Columns). barRow k Y K (criticalOf Y u)) (a .k-same) set-alike
+          ∙ ap (barRow (s .k) Y (within L (barSetOf X s))) critical-alike ∙ barRow-part n (s .k) (s .e) X sound L len bar-in (criticalOf X s)
+
+      offer-same : position L (barOfferOf Y u - 1) + 1 ≡ barOfferOf X s
+      unfolding barOfferOf
+      offer-same =
+          let g = barRowOf X s in
+          let row = getD X g [] in
+          let K = barSetOf X s in
+          let j = kMaxColumn (u .k) (barSetOf Y u) (getD Y (barRowOf Y u) []) in
+          let z : j + 1 - 1 ≡ j = omega arith in
+          ap (λ (i : ℕ). position L i + 1) z
+          ∙ ap₂ (λ (k : ℕ) (A : Columns). position L (kMaxColumn k A (getD Y (barRowOf Y u) [])) + 1) (a .k-same) set-alike
+          ∙ ap (λ (x : List Float). position L (kMaxColumn (s .k) (within L K) x) + 1) (ap (λ (i : ℕ). getD Y i []) row-same ∙ getD-map (within L) X g [] [] (row-below X s w))
+          ∙ ap (λ (i : ℕ). i + 1) (kMaxColumn-part n (s .k) (s .e) X sound L len bar-in row (subst (λ (m : ℕ). T (soundRow m row)) (a .columns-are) (row-sound X s w)))
+
+      -- the records are the same, but that offers count among the columns of L
+      record-alike : counted L (recordOf Y u) ≡ recordOf X s
+      unfolding recordOf
+      record-alike = λ i. record { step = number-alike i; critical = critical-alike i; row = row-same i; offer = offer-same i }
 
     ended-alike : next Y u .ended ≡ next X s .ended
     unfolding next endsAfter
@@ -151,7 +209,7 @@ module _ (X : List (List Float)) (n : ℕ) (sound : Sound n X) (L : Columns) (le
 
   data AlikeSteps : List Step → List Step → Type 0 where
     none : AlikeSteps [] []
-    more : {x y : Step} {xs ys : List Step} → y .logged ≡ x .logged → Alike (x .state) (y .state) → AlikeSteps xs ys → AlikeSteps (x ∷ xs) (y ∷ ys)
+    more : {x y : Step} {xs ys : List Step} → y .logged .step ≡ x .logged .step → y .logged .critical ≡ x .logged .critical → Alike (x .state) (y .state) → AlikeSteps xs ys → AlikeSteps (x ∷ xs) (y ∷ ys)
 
   steps-alike : (m : ℕ) (b c : Bool) (s u : State) → c ≡ b → Alike s u → AlikeSteps (stepsFrom m b X s) (stepsFrom m c Y u)
   unfolding stepsFrom
@@ -159,16 +217,22 @@ module _ (X : List (List Float)) (n : ℕ) (sound : Sound n X) (L : Columns) (le
   steps-alike (suc m) true c s u q a = subst (λ (d : Bool). AlikeSteps [] (stepsFrom (suc m) d Y u)) (sym q) none
   steps-alike (suc m) false c s u q a =
       subst (λ (d : Bool). AlikeSteps (stepsFrom (suc m) false X s) (stepsFrom (suc m) d Y u)) (sym q)
-      (more (record-alike s u a) (next-alike s u a) (steps-alike m (next X s .ended) (next Y u .ended) (next X s) (next Y u) (ended-alike s u a) (next-alike s u a)))
+      (more (number-alike s u a) (value-alike s u a) (next-alike s u a) (steps-alike m (next X s .ended) (next Y u .ended) (next X s) (next Y u) (ended-alike s u a) (next-alike s u a)))
 
-  logged-alike : {xs ys : List Step} → AlikeSteps xs ys → map (λ z. z .logged) ys ≡ map (λ z. z .logged) xs
-  logged-alike none = refl
-  logged-alike (more l a r) = ap₂ (λ (z : Record) (zs : List Record). z ∷ zs) l (logged-alike r)
+  records-alike : (m : ℕ) (b c : Bool) (s u : State) → c ≡ b → Alike s u → (b ≡ false → Ready X s) → map (counted L) (map (λ z. z .logged) (stepsFrom m c Y u)) ≡ map (λ z. z .logged) (stepsFrom m b X s)
+  unfolding stepsFrom
+  records-alike zero b c s u q a w = refl
+  records-alike (suc m) true c s u q a w = ap (λ (d : Bool). map (counted L) (map (λ z. z .logged) (stepsFrom (suc m) d Y u))) q
+  records-alike (suc m) false c s u q a w =
+      ap (λ (d : Bool). map (counted L) (map (λ z. z .logged) (stepsFrom (suc m) d Y u))) q
+      ∙ ap₂ (λ (z : Record) (zs : List Record). z ∷ zs) (record-alike s u a (w refl))
+      (records-alike m (next X s .ended) (next Y u .ended) (next X s) (next Y u) (ended-alike s u a) (next-alike s u a) (λ on. ready-next X s (w refl) on))
 
   verdict-alike : {xs ys : List Step} (last : Float) (i : ℕ) → i < size L → AlikeSteps xs ys → verdictFrom last ys i ≡ verdictFrom last xs (position L i)
   verdict-alike last i h none = refl
-  verdict-alike last i h (more {x} {y} {xs} {ys} l a r) =
-      ap₂ (λ (b : Bool) (z : Record). cond b (Rejected (z .step) (z .critical)) (verdictFrom (z .critical) ys i)) bit l
+  verdict-alike last i h (more {x} {y} {xs} {ys} l v a r) =
+      ap₂ (λ (b : Bool) (m : ℕ). cond b (Rejected m (y .logged .critical)) (verdictFrom (y .logged .critical) ys i)) bit l
+      ∙ ap (λ (c : Float). cond (inSet (x .state .rejected) (position L i)) (Rejected (x .logged .step) c) (verdictFrom c ys i)) v
       ∙ ap (λ (v : Verdict). cond (inSet (x .state .rejected) (position L i)) (Rejected (x .logged .step) (x .logged .critical)) v) (verdict-alike (x .logged .critical) i h r)
     where
       bit : inSet (y .state .rejected) i ≡ inSet (x .state .rejected) (position L i)
@@ -217,9 +281,12 @@ module _ (X : List (List Float)) (rows columns k e observed live : ℕ) (sound :
   unfolding stepsOf
   run-alike = steps-alike X columns sound L long 32 (full .ended) (part .ended) full part (ap (λ (m : ℕ). ltb m k) (full-size (size L))) first-alike
 
-  pub records-without : fullRun X (firstState rows columns k e observed live) .records ≡ fullRun (map (within (columnsOf columns live)) X) (firstState rows (size (columnsOf columns live)) k e observed (fullMask (size (columnsOf columns live)))) .records
-  unfolding fullRun
-  records-without = sym (logged-alike X columns sound L long run-alike)
+  -- the records of the smaller table, their offers counted in the larger one
+  pub records-without : 0 < k → e < length X
+      → fullRun X (firstState rows columns k e observed live) .records ≡ map (counted (columnsOf columns live)) (fullRun (map (within (columnsOf columns live)) X) (firstState rows (size (columnsOf columns live)) k e observed (fullMask (size (columnsOf columns live)))) .records)
+  unfolding fullRun stepsOf
+  records-without pos rare =
+      sym (records-alike X columns sound L long 32 (full .ended) (part .ended) full part (ap (λ (m : ℕ). ltb m k) (full-size (size L))) first-alike (λ on. ready-first X rows columns k e observed live sound seen pos rare on))
 
   module _ (i : ℕ) (h : i < size (columnsOf columns live)) where
     at : position (columnsOf columns live) i < columns

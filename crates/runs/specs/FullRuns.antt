@@ -21,7 +21,7 @@ use Rattle.runs.specs.declared.FullRun.{FullRun}
 use Rattle.runs.specs.declared.Verdict.the-variants.{Rejected, Kept, Aside}
 
 abbrev pub noRecord : Record
-noRecord = record { step = 0; critical = plusZero }
+noRecord = record { step = 0; critical = plusZero; row = 0; offer = 0 }
 
 abbrev pub decision : Verdict → Decision
 decision v = record { verdict = v }

@@ -4,6 +4,9 @@
 --   firstState rows columns k e observed live    the state before step 1: nothing rejected; where fewer than k columns are live no step is taken
 --   stepCritical k e X live R steps    the critical value after so many steps, with R rejected
 --   criticalOf X s                     the critical value of the next step
+--   stepSets k live R steps            the sets that a step looks at, in the order of the walk
+--   barSetOf X s                       the first of those of the next step whose critical value is that of the step (document 02, §5)
+--   barRowOf X s, barOfferOf X s       the lowest row whose k-max over that set equals it, from 0; that row's offer, from 1
 --   newlyRejected X s                  the columns that the next step rejects
 --   endsAfter k live new R             whether a step that rejected `new`, so that R is rejected, ends the run
 --   next X s, recordOf X s             the state after the next step, and its record
@@ -15,7 +18,7 @@
 --   countAt X s j                      its count; 0 where it is set aside
 --   Outcome                            what a full run tells: M (the rows of its table), e, verdicts, counts and records
 --   fullRun X s                        those of the run that begins with s
-use Prim.Native.Nat.{ℕ, zero, suc, _+_}
+use Prim.Native.Nat.{ℕ, zero, suc, _+_, _-_}
 use mathlib.Core.Bool.{Bool, true, false, cond, _||_}
 use mathlib.Core.List.{List, [], _∷_, map}
 use lib.ListN.{getD}
@@ -23,8 +26,9 @@ use lib.Dec.{ltb, eqb}
 use lib.Ieee.{Float, nan}
 use Rattle.order.specs.Order.{plusZero}
 use Rattle.order.specs.Lists.{tabulate}
-use Rattle.columns.specs.Columns.{Columns, size, _∪_, _∩_, _∖_, over, inSet, columnsOf, maskOf}
+use Rattle.columns.specs.Columns.{Columns, size, _∪_, _∩_, _∖_, over, choose, inSet, columnsOf, maskOf}
 use Rattle.method.specs.Method.{criticalValue, putBack, atLeast}
+use Rattle.method.specs.Bars.{kMaxColumn, barSet, barRow}
 use Rattle.runs.specs.declared.State.{State}
 use Rattle.runs.specs.declared.Record.{Record}
 use Rattle.runs.specs.declared.Step.{Step}
@@ -65,6 +69,24 @@ unfoldable pub criticalOf : List (List Float) → State → Float
 unfolding stepCritical columnsOf
 criticalOf X s = stepCritical (s .k) (s .e) X (liveSet s) (rejectedSet s) (s .steps)
 
+-- who set it: the walk takes lower columns first
+unfoldable pub stepSets : ℕ → Columns → Columns → ℕ → List Columns
+unfolding choose _∪_ _∖_
+stepSets k live R zero = live ∷ []
+stepSets k live R (suc s) = map (λ I. (live ∖ R) ∪ I) (choose (k - 1) R)
+
+unfoldable pub barSetOf : List (List Float) → State → Columns
+unfolding stepSets criticalOf barSet columnsOf
+barSetOf X s = barSet (s .k) (s .e) X (stepSets (s .k) (liveSet s) (rejectedSet s) (s .steps)) (criticalOf X s)
+
+unfoldable pub barRowOf : List (List Float) → State → ℕ
+unfolding criticalOf barSetOf barRow
+barRowOf X s = barRow (s .k) X (barSetOf X s) (criticalOf X s)
+
+unfoldable pub barOfferOf : List (List Float) → State → ℕ
+unfolding barSetOf barRowOf kMaxColumn
+barOfferOf X s = kMaxColumn (s .k) (barSetOf X s) (getD X (barRowOf X s) []) + 1
+
 unfoldable pub newlyRejected : List (List Float) → State → Columns
 unfolding criticalOf over _∖_ _∩_
 newlyRejected X s = leftOver s ∩ over (criticalOf X s) (getD X (s .observed) [])
@@ -92,8 +114,8 @@ next X s =
     }
 
 unfoldable pub recordOf : List (List Float) → State → Record
-unfolding criticalOf
-recordOf X s = record { step = s .steps + 1; critical = criticalOf X s }
+unfolding criticalOf barRowOf barOfferOf
+recordOf X s = record { step = s .steps + 1; critical = criticalOf X s; row = barRowOf X s; offer = barOfferOf X s }
 
 abbrev pub step : List (List Float) → State → Step
 step X s = record { state = next X s; logged = recordOf X s }

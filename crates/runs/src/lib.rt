@@ -17,10 +17,13 @@ pub struct State {
     pub ended: bool,
 }
 
-// What a step leaves behind (document 01: record): its number, from 1, and its critical value.
+// What a step leaves behind (document 01: record): its number, from 1, its critical value, and who set it (document 02, §5): the lowest row
+// whose k-max equals it, from 0, and that row's offer, by its position in the trial or table, from 1.
 pub struct Record {
     pub step: usize,
     pub critical: f64,
+    pub row: usize,
+    pub offer: usize,
 }
 
 // One step: the state after it, and its record.
@@ -62,6 +65,8 @@ pub fn refused(number: u32) -> FullRun
     let r = Record {
         step: 0,
         critical: 0.0,
+        row: 0,
+        offer: 0,
     };
     let d = Decision {
         verdict: Verdict::Kept(0.0),

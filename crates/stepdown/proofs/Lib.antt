@@ -3,3 +3,4 @@ pub mod Spoiled
 pub mod Calls
 pub mod TableRuns
 pub mod StepByStep
+pub mod Bars

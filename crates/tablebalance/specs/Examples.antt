@@ -45,9 +45,9 @@ unfoldable pub examples : List Example
 examples =
     -- W: offer 1 is rejected and offer 2 kept, as in the plain run
     record { asked = tabled W 8 2; told = ranks (8 ∷ 7 ∷ 5 ∷ 3 ∷ 7 ∷ 8 ∷ 3 ∷ 5 ∷ 6 ∷ 5 ∷ 2 ∷ 1 ∷ 4 ∷ 7 ∷ 1 ∷ 3 ∷ []) }
-    ∷ record { asked = balanced W 8 2; told = run 2 (Rejected 1 (⁺ 7) ∷ Kept (⁺ 7) ∷ []) (1 ∷ 3 ∷ []) (step 1 (⁺ 7) ∷ step 2 (⁺ 7) ∷ []) ∷ [] }
+    ∷ record { asked = balanced W 8 2; told = run 2 (Rejected 1 (⁺ 7) ∷ Kept (⁺ 7) ∷ []) (1 ∷ 3 ∷ []) (step 1 (⁺ 7) 6 2 ∷ step 2 (⁺ 7) 0 2 ∷ []) ∷ [] }
     -- milk's figures are large and set the bar for both; balanced, saffron is rejected. The counts are the same
-    ∷ record { asked = plain Sales 8 2; told = run 2 (Kept (⁺ 400) ∷ Kept (⁺ 400) ∷ []) (3 ∷ 1 ∷ []) (step 1 (⁺ 400) ∷ []) ∷ [] }
+    ∷ record { asked = plain Sales 8 2; told = run 2 (Kept (⁺ 400) ∷ Kept (⁺ 400) ∷ []) (3 ∷ 1 ∷ []) (step 1 (⁺ 400) 0 1 ∷ []) ∷ [] }
     ∷ record { asked = tabled Sales 8 2; told = ranks (6 ∷ 8 ∷ 2 ∷ 5 ∷ 8 ∷ 6 ∷ 5 ∷ 2 ∷ 5 ∷ 7 ∷ 1 ∷ 3 ∷ 7 ∷ 5 ∷ 3 ∷ 1 ∷ []) }
-    ∷ record { asked = balanced Sales 8 2; told = run 2 (Kept (⁺ 6) ∷ Rejected 1 (⁺ 7) ∷ []) (3 ∷ 1 ∷ []) (step 1 (⁺ 7) ∷ step 2 (⁺ 6) ∷ []) ∷ [] }
+    ∷ record { asked = balanced Sales 8 2; told = run 2 (Kept (⁺ 6) ∷ Rejected 1 (⁺ 7) ∷ []) (3 ∷ 1 ∷ []) (step 1 (⁺ 7) 4 2 ∷ step 2 (⁺ 6) 0 1 ∷ []) ∷ [] }
     ∷ []

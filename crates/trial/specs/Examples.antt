@@ -4,6 +4,7 @@
 --   sumsW              the sums of its rows, offer by offer
 --   settings           the settings of the starred examples of W: a, b and k
 --   trialAside         W with a third offer, 04711, whose differences are all 0: it is set aside
+--   trialFront         the same with that offer in front of W's
 --   trialCancelled     two offers with k 2: the differences of 0042 cancel, and it takes part; those of 7 are 0, so fewer than k offers remain
 --   trialZeros         two offers, neither of them tested
 use Prim.Native.Nat.{ℕ}
@@ -46,6 +47,14 @@ trialAside = record {
   shape = record { k = 1; offers = 3; design = Paired 3 };
   labels = record { codes = 42 ∷ 7 ∷ 4711 ∷ replicate 13 0; digits = 4 ∷ 1 ∷ 5 ∷ replicate 13 0 };
   figures = pos 5 ∷ pos 3 ∷ pos 4 ∷ pos 2 ∷ negsuc 0 ∷ pos 1 ∷ pos 0 ∷ pos 0 ∷ pos 0 ∷ replicate 135 (pos 0);
+}
+
+unfoldable pub trialFront : Trial
+trialFront = record {
+  level = record { a = 1; b = 4 };
+  shape = record { k = 1; offers = 3; design = Paired 3 };
+  labels = record { codes = 4711 ∷ 42 ∷ 7 ∷ replicate 13 0; digits = 5 ∷ 4 ∷ 1 ∷ replicate 13 0 };
+  figures = pos 0 ∷ pos 0 ∷ pos 0 ∷ pos 5 ∷ pos 3 ∷ pos 4 ∷ pos 2 ∷ negsuc 0 ∷ pos 1 ∷ replicate 135 (pos 0);
 }
 
 unfoldable pub trialCancelled : Trial

@@ -8,20 +8,25 @@
 --   nothing-aside                  where no offer is set aside it is the balanced full run of the trial's table
 --   trial-counts                   its counts are those of the plain run
 --   balanced-without               it is the balanced full run of the table of the offers that remain
-use Prim.Native.Nat.{ℕ, _*_, _^_, _≤_}
+--   balanced-set-by, balanced-offer     who set its critical values
+use Prim.Native.Nat.{ℕ, _*_, _-_, _^_, _≤_, _<_}
 use native.Mathlib.Omega.{arith}
 use mathlib.Core.Path.{_≡_, sym, ap, ap₂, _∙_, subst}
+use mathlib.Core.Bool.{false}
 use mathlib.Core.List.{List, _++_}
-use lib.ListN.{length, take, drop, length-append}
+use lib.ListN.{length, getD, take, drop, length-append}
 use lib.Seq.{take-at, drop-at}
 use lib.Ieee.{Float}
 use Rattle.order.specs.Lists.{rowsOf}
 use Rattle.limits.specs.Limits.{trialRowsMost}
+use Rattle.order.proofs.Rows.{Sound}
 use Rattle.refusals.specs.Buffers.{written}
 use Rattle.columns.specs.Columns.{size, fullMask}
 use Rattle.masks.specs.Internal.{CheckedTable}
 use Rattle.runs.specs.Stepdown.{Outcome, fullRun}
 use Rattle.runs.specs.Tables.{tableStart, tableRun}
+use Rattle.runs.specs.SetBy.{RecordSetBy}
+use Rattle.runs.specs.declared.Record.{Record}
 use Rattle.stepdown.proofs.Accepted as tables
 use Rattle.balance.specs.Balance.{balancedRows, balancedTable}
 use Rattle.balance.proofs.Balanced.{balancedRows-length, balanced-sound, balancedTable-length, balancedTable-rows}
@@ -30,7 +35,8 @@ use Rattle.tablebalance.specs.Answers.{balancedRun}
 use Rattle.tablebalance.proofs.Accepted.{accepted-balanced}
 use Rattle.tablebalance.proofs.Counted.{run-counts, balancedRun-rows}
 use Rattle.trial.specs.Aside.{liveOffers, liveMask}
-use Rattle.trial.specs.Exchange.{rowTotal, trialRows, tableOf}
+use Rattle.trial.specs.Designs.{untested}
+use Rattle.trial.specs.Exchange.{figuresAt, rowTotal, trialRows, tableOf}
 use Rattle.trial.specs.declared.Trial.{Trial}
 use Rattle.trial.specs.declared.TableSize.{TableSize}
 use Rattle.trial.specs.Refusals.{trialRefusal}
@@ -40,6 +46,7 @@ use Rattle.trial.proofs.Tables.{trialRows-length, trialRows-sound, tableOf-leng
 use Rattle.trialrun.specs.TrialRuns.{trialStart, trialRun, runSize, runTable}
 use Rattle.trialrun.proofs.Tabled.{free, rows-are, columns-are, same-total, good, filled, front, asked}
 use Rattle.trialrun.proofs.Runs.{table-accepted, start-all}
+use Rattle.trialrun.proofs.Bars.{trial-set-by, trial-offer}
 use Rattle.trialrun.proofs.Without.{Without, run-without, remainingTable, remaining-rows, remaining-length}
 use Rattle.trialbalance.specs.TrialBalance.{trialBalanced, trialBalancedRun, runBalanced}
 use Rattle.trialbalance.proofs.Parts.{balanced-part}
@@ -118,6 +125,12 @@ module _ (t : Trial) where
     unfolding rowTotal
     few = omega (arith, trialRows-length t, acc .laid .rows-most)
 
+    ranked-sound : Sound (t .shape .offers) (balancedRows (trialRows t))
+    ranked-sound = balanced-sound (t .shape .offers) (trialRows t) (trialRows-sound t acc) few
+
+    ranked-length : length (balancedRows (trialRows t)) ≡ rowTotal t
+    ranked-length = balancedRows-length (trialRows t) ∙ trialRows-length t
+
     pub trial-counts : trialBalancedRun t .counts ≡ trialRun t .counts
     unfolding trialBalancedRun trialRun
     trial-counts = run-counts (trialRows t) (trialStart t) (trialRows-sound t acc) few (omega (arith, trialRows-length t, rowTotal-some t))
@@ -131,4 +144,14 @@ module _ (t : Trial) where
         (ap (λ (Y : List (List Float)). fullRun Y start)
         (balanced-part (t .shape .offers) (trialRows t) (trialRows-sound t acc) (liveOffers t) (live-length t) ∙ ap balancedRows (sym (remaining-rows t ok)))
         ∙ sym (balancedRun-rows (remainingTable t) (rowTotal t) n (t .shape .k) (t .level .a) (t .level .b) 0 (remaining-length t ok)))
-        (run-without t (balancedRows (trialRows t)) (balanced-sound (t .shape .offers) (trialRows t) (trialRows-sound t acc) few) (omega (arith, balancedRows-length (trialRows t), trialRows-length t, rowTotal-some t)))
+        (run-without t acc (balancedRows (trialRows t)) ranked-sound ranked-length)
+
+    -- who set its critical values
+    module _ (i : ℕ) (h : i < length (trialBalancedRun t .records)) (d : Record) where
+      pub balanced-set-by : RecordSetBy (balancedRows (trialRows t)) (trialStart t) i (getD (trialBalancedRun t .records) i d)
+      unfolding trialBalancedRun
+      balanced-set-by = trial-set-by t acc (balancedRows (trialRows t)) ranked-sound ranked-length i h d
+
+      pub balanced-offer : let m = getD (trialBalancedRun t .records) i d in (m .row < rowTotal t) × (0 < m .offer) × (m .offer ≤ t .shape .offers) × (untested (t .shape .design) (figuresAt t (m .offer - 1)) ≡ false)
+      unfolding trialBalancedRun
+      balanced-offer = trial-offer t acc (balancedRows (trialRows t)) ranked-sound ranked-length i h d

@@ -5,6 +5,7 @@
 --   wordsAfter     W's file with a word after the end
 --   wordsSaffron   the file of the trial milk and saffron, samples/saffron.trial
 --   wordsAside     the file of W with a third offer, 04711, whose differences are all 0: samples/aside.trial
+--   wordsFront     the same with that offer in front of W's
 --   wordsCancelled that of two offers with k 2: the differences of 0042 cancel, and those of 7 are 0
 --   wordsZeros     that of two offers whose differences are all 0
 use mathlib.Core.List.{List, [], _∷_, _++_}
@@ -34,6 +35,10 @@ wordsSaffron = 268451844 ∷ 536936963 ∷ 872419243 ∷ 872416139 ∷ 107374232
 -- 0x10004004, 0x20010303, 0x3400002A, 0x31000007, 0x35001267, 0x40000005, 0x40000003, 0x40000004, 0x40000002, 0x4FFFFFFF, 0x40000001, 0x40000000, 0x40000000, 0x40000000, 0xF000000E
 unfoldable pub wordsAside : List ℕ
 wordsAside = 268451844 ∷ 536937219 ∷ 872415274 ∷ 822083591 ∷ 889197159 ∷ 1073741829 ∷ 1073741827 ∷ 1073741828 ∷ 1073741826 ∷ 1342177279 ∷ 1073741825 ∷ 1073741824 ∷ 1073741824 ∷ 1073741824 ∷ 4026531854 ∷ []
+
+-- 0x10004004, 0x20010303, 0x35001267, 0x3400002A, 0x31000007, 0x40000000, 0x40000000, 0x40000000, 0x40000005, 0x40000003, 0x40000004, 0x40000002, 0x4FFFFFFF, 0x40000001, 0xF000000E
+unfoldable pub wordsFront : List ℕ
+wordsFront = 268451844 ∷ 536937219 ∷ 889197159 ∷ 872415274 ∷ 822083591 ∷ 1073741824 ∷ 1073741824 ∷ 1073741824 ∷ 1073741829 ∷ 1073741827 ∷ 1073741828 ∷ 1073741826 ∷ 1342177279 ∷ 1073741825 ∷ 4026531854 ∷ []
 
 -- 0x10004004, 0x20020202, 0x3400002A, 0x31000007, 0x40000005, 0x4FFFFFFB, 0x40000000, 0x40000000, 0xF0000008
 unfoldable pub wordsCancelled : List ℕ

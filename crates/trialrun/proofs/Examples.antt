@@ -2,11 +2,13 @@
 -- trial. And trials with offers that are set aside (document 02, §4).
 --   w-with-table, w-table, w-with-run     the table of W and its full run
 --   aside-run          W with a third offer of zeros: W's verdicts, counts and records, and that offer set aside
+--   front-run          the same with that offer in front
 --   cancelled-run      an offer whose differences add up to zero is not set aside; with k 2 it alone remains, so no step is run and it is kept with plus zero
 --   zeros-run          a trial all of whose offers are set aside
 use Prim.Native.Nat.{ℕ}
 use mathlib.Core.Path.{_≡_, refl, ap, _∙_}
 use mathlib.Core.List.{List, [], _∷_}
+use lib.ListN.{take}
 use lib.IntN.{pos}
 use lib.Ieee.{Float, fin, lt, le, ofInt}
 use mathlib.Core.Bool.{true, false}
@@ -19,7 +21,7 @@ use Rattle.runs.specs.Examples.{W, ⁺, step, run, whole}
 use Rattle.runs.specs.declared.Verdict.the-variants.{Rejected, Kept, Aside}
 use Rattle.trial.specs.Aside.{liveMask}
 use Rattle.trial.specs.Exchange.{rowTotal, tableOf}
-use Rattle.trial.specs.Examples.{trialWith, trialW, trialAside, trialCancelled, trialZeros}
+use Rattle.trial.specs.Examples.{trialWith, trialW, trialAside, trialFront, trialCancelled, trialZeros}
 use Rattle.trialrun.specs.TrialRuns.{trialRun}
 use Rattle.trialrun.proofs.Runs.{trialRun-table, nothing-aside}
 
@@ -51,13 +53,26 @@ WithZeros =
     ∷ fin true 3 (pos 2) ∷ fin true 1 (pos 1) ∷ plusZero
     ∷ []
 
+-- and in front
+abbrev ZerosWith : List Float
+ZerosWith = plusZero ∷ take 23 WithZeros
+
 aside-table : tableOf trialAside ≡ WithZeros
 unfolding tableOf trialAside
 aside-table = refl
 
-pub aside-run : whole (trialRun trialAside) ≡ run 2 (Rejected 1 (⁺ 4) ∷ Kept (⁺ 2) ∷ Aside ∷ []) (1 ∷ 3 ∷ 0 ∷ []) (step 1 (⁺ 4) ∷ step 2 (⁺ 2) ∷ [])
+front-table : tableOf trialFront ≡ ZerosWith
+unfolding tableOf trialFront
+front-table = refl
+
+pub aside-run : whole (trialRun trialAside) ≡ run 2 (Rejected 1 (⁺ 4) ∷ Kept (⁺ 2) ∷ Aside ∷ []) (1 ∷ 3 ∷ 0 ∷ []) (step 1 (⁺ 4) 4 1 ∷ step 2 (⁺ 2) 0 2 ∷ [])
 unfolding trialAside rowTotal liveMask allowance fullRun rowsOf lt le ofInt
 aside-run = ap whole (trialRun-table trialAside) ∙ ap (λ (t : List Float). whole (fullRun (rowsOf 8 3 t) (firstState 8 3 1 2 0 3))) aside-table
+
+-- who set the bar is told by the position in the trial (document 02, §5)
+pub front-run : whole (trialRun trialFront) ≡ run 2 (Aside ∷ Rejected 1 (⁺ 4) ∷ Kept (⁺ 2) ∷ []) (0 ∷ 1 ∷ 3 ∷ []) (step 1 (⁺ 4) 4 2 ∷ step 2 (⁺ 2) 0 3 ∷ [])
+unfolding trialFront rowTotal liveMask allowance fullRun rowsOf lt le ofInt
+front-run = ap whole (trialRun-table trialFront) ∙ ap (λ (t : List Float). whole (fullRun (rowsOf 8 3 t) (firstState 8 3 1 2 0 6))) front-table
 
 pub cancelled-run : whole (trialRun trialCancelled) ≡ run 1 (Kept plusZero ∷ Aside ∷ []) (3 ∷ 0 ∷ []) []
 unfolding trialRun trialCancelled lt le

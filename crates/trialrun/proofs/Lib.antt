@@ -5,3 +5,4 @@ pub mod Without
 pub mod Files
 pub mod Unused
 pub mod Examples
+pub mod Bars

@@ -1,5 +1,5 @@
 -- Demand 2 over the offers that remain (document 02, §4): the full run of a trial is that of its table without the columns of the offers that are set aside.
---   Without t o r      the records of o and r are the same, and of the offers that remain, in their order, verdicts and counts
+--   Without t o r      the records of o are those of r, their offers counted in the trial; and of the offers that remain, in their order, verdicts and counts
 --   run-without        so it is for the full run of X without the other columns
 --   remainingTable t   the table of the offers that remain; its rows, its length, and that it is accepted where k or more remain: remaining-..
 --   trial-without      the full run of the trial is that of this table
@@ -12,11 +12,12 @@ use lib.Ieee.{Float}
 use Rattle.order.specs.Lists.{rowsOf, joined}
 use Rattle.order.proofs.Rows.{Sound}
 use Rattle.refusals.specs.Limits.{allowance}
+use Rattle.refusals.proofs.Limits.{allowance-lt}
 use Rattle.columns.specs.Columns.{Columns, size, within}
 use Rattle.columns.proofs.Sets.{size-length}
 use Rattle.runs.specs.Stepdown.{Outcome, fullRun}
 use Rattle.runs.specs.Tables.{tableStart, tableRun}
-use Rattle.runs.proofs.Without.{rest-sound, records-without, verdicts-without, counts-without}
+use Rattle.runs.proofs.Without.{counted, rest-sound, records-without, verdicts-without, counts-without}
 use Rattle.stepdown.specs.Refusals.{tableRefusal}
 use Rattle.trial.specs.Aside.{liveOffers, liveMask}
 use Rattle.trial.specs.Exchange.{rowTotal, trialRows}
@@ -31,11 +32,17 @@ use Rattle.trialrun.proofs.Runs.{rows-again, joined-is, rows-accepted}
 module _ (t : Trial) where
   -- o is what a run of the trial tells of all offers, and r what one of the remaining offers tells of them
   pub record Without (o r : Outcome) : Type 0 where
-    pub records : o .records ≡ r .records
+    pub records : o .records ≡ map (counted (liveOffers t)) (r .records)
     pub verdicts : within (liveOffers t) (o .verdicts) ≡ r .verdicts
     pub counts : within (liveOffers t) (o .counts) ≡ r .counts
 
-  module _ (X : List (List Float)) (sound : Sound (t .shape .offers) X) (some : 0 < length X) where
+  module _ (acc : Accepted t) (X : List (List Float)) (sound : Sound (t .shape .offers) X) (tall : length X ≡ rowTotal t) where
+    some : 0 < length X
+    some = omega (arith, tall, rowTotal-some t)
+
+    rare : allowance (rowTotal t) (t .level .a) (t .level .b) < length X
+    rare = omega (arith, tall, allowance-lt (rowTotal t) (t .level .a) (t .level .b) (rowTotal-some t) (acc .levelled .proper))
+
     abbrev alone : Columns → Outcome
     alone L = fullRun (map (within L) X) (tableStart (rowTotal t) (size L) (t .shape .k) (t .level .a) (t .level .b) 0)
 
@@ -46,7 +53,7 @@ module _ (t : Trial) where
     run-without =
         let e = allowance (rowTotal t) (t .level .a) (t .level .b) in
         record {
-          records = subst (λ (L : Columns). full .records ≡ alone L .records) (live-columns t) (records-without X (rowTotal t) (t .shape .offers) (t .shape .k) e 0 (liveMask t) sound some);
+          records = subst (λ (L : Columns). full .records ≡ map (counted L) (alone L .records)) (live-columns t) (records-without X (rowTotal t) (t .shape .offers) (t .shape .k) e 0 (liveMask t) sound some (acc .k-some) rare);
           verdicts = subst (λ (L : Columns). within L (full .verdicts) ≡ alone L .verdicts) (live-columns t) (verdicts-without X (rowTotal t) (t .shape .offers) (t .shape .k) e 0 (liveMask t) sound some);
           counts = subst (λ (L : Columns). within L (full .counts) ≡ alone L .counts) (live-columns t) (counts-without X (rowTotal t) (t .shape .offers) (t .shape .k) e 0 (liveMask t) sound some);
         }
@@ -85,4 +92,4 @@ module _ (t : Trial) where
     unfolding trialRun tableRun
     trial-without =
         subst (λ (Y : List (List Float)). Without (fullRun (trialRows t) (trialStart t)) (fullRun Y (tableStart (rowTotal t) (size L) (t .shape .k) (t .level .a) (t .level .b) 0))) (sym remaining-rows)
-        (run-without (trialRows t) (trialRows-sound t acc) (omega (arith, trialRows-length t, rowTotal-some t)))
+        (run-without acc (trialRows t) (trialRows-sound t acc) (trialRows-length t))

@@ -26,10 +26,10 @@ pub(crate) fn run(p: Pen, r: Run) -> Pen {
     pen::put(q, 0)
 }
 
-// A record: the step and its critical value.
+// A record: the step, its critical value, and the row and the offer that set it.
 pub(crate) fn record(p: Pen, r: Record) -> Pen {
-    let q = pen::put(p, r.step);
-    pen::put(q, bits::of(r.critical))
+    let q = pen::put(pen::put(p, r.step), bits::of(r.critical));
+    pen::put(pen::put(q, r.row), r.offer)
 }
 
 // A verdict: its number (the rejecting step, 0 for kept, 255 for set aside), as the library tells it and as its case does, and the critical value, plus zero where it has none.

@@ -40,7 +40,7 @@ fn step(viewed: bool, r: Run, cells: &[f64], work: &mut [f64]) -> StepAnswer {
 fn stepped(s: StepAnswer, before: Run) -> Going {
     match s {
         StepAnswer::Stepped(run, logged) => {
-            let p = answers::record(pen::start(b"step", 12, 0), logged);
+            let p = answers::record(pen::start(b"step", 14, 0), logged);
             pen::end(answers::run(p, run));
             Going { run, on: true }
         }

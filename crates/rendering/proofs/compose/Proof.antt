@@ -13,7 +13,7 @@ head-requires : tie.Need-head-requires
 head-requires c κs = let s = c .before .before .before .before .before .before .before in omega (arith, s .pre .0)
 
 steps-requires : tie.Need-steps-requires
-steps-requires c κs = let h = c .before .before .before .head in let s = c .before .before .before .before .before .before .before .before .before .before .before in let p = s .pre .1 (c .before .before .before .before .before .before .before .before .if1 .left) in (h .ensures .1, omega (arith, h .kept .0, s .pre .0), p .run-printable)
+steps-requires c κs = let h = c .before .before .before .head in let s = c .before .before .before .before .before .before .before .before .before .before .before in let p = s .pre .1 (c .before .before .before .before .before .before .before .before .if1 .left) in (h .ensures .1, omega (arith, h .kept .0, s .pre .0), p .offers-most, p .digits-few, p .run-printable)
 
 offers-requires : tie.Need-offers-requires
 offers-requires c κs = let q = c .before .before .before .steps in let h = c .before .before .before .before .before .before .before .head in let s = c .before .before .before .before .before .before .before .before .before .before .before .before .before .before .before in let p = s .pre .1 (c .before .before .before .before .before .before .before .before .before .before .before .before .if1 .left) in (omega (arith, q .ensures .1, h .ensures .1), omega (arith, q .kept .0, h .kept .0, s .pre .0), p .offers-most, p .digits-few)

@@ -1,6 +1,7 @@
 -- `critical_value` meets its contract.
 use lib.Seq.{length-take-le}
-use Rattle.critical.proofs.TableRows.{back-is, quantile-is, front-rank}
+use Rattle.critical.proofs.TableRows.{back-is, front-rank}
+use Rattle.critical.proofs.LowestRow.{found-is}
 use mathlib.Core.Path.{sym}
 use native.Mathlib.Omega.{arith}
 use Prim.Native.Nat.{_-_}
@@ -23,11 +24,14 @@ mth-smallest-requires c κs =
     let p = f .before .before .before .before .before .before .before .pre in
     front-rank _ _ _ _ _ _ (p .0) (p .3) _ _ (f .fill .ensures)
 
+slice-aggregate-first-equal : tie.Need-slice-aggregate-first-equal
+slice-aggregate-first-equal c = let f = c .before .before .before .before .before .before in sym (length-take-le (f .before .before .before .before .before .before .before .args .f .rows) (f .fill .last .1 .0) (omega (arith, f .fill .kept .1 .0)))
+
 returns : tie.Need-returns
 returns c =
-    let f = c .before .before .before .before .before in
+    let f = c .before .before .before .before .before .before .before in
     let p = f .before .before .before .before .before .before .before .pre in
-    (quantile-is _ _ _ _ _ _ (p .0) (p .3) _ _ (f .fill .ensures) (c .mth-smallest .ensures), back-is _ _ _ _ _ _ (p .0) (p .3) _ _ (f .fill .ensures))
+    (found-is _ _ _ _ _ _ (p .0) (p .3) _ _ (f .fill .ensures) _ _ (c .before .before .mth-smallest .ensures) (c .first-equal .ensures), back-is _ _ _ _ _ _ (p .0) (p .3) _ _ (f .fill .ensures))
 
 pub critical-value-spec : {M : Type 1} → statement M
 critical-value-spec =
@@ -41,5 +45,8 @@ critical-value-spec =
     slice-aggregate-mth-smallest
     (λ c. search needs)
     mth-smallest-requires
+    (λ c. search needs)
+    slice-aggregate-first-equal
+    (λ c κs. search needs)
     (λ c. search needs)
     returns)

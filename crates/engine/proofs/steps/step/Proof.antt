@@ -26,16 +26,16 @@ above-requires : tie.Need-above-requires
 above-requires c κs = let g = c .before .before .before .before .before .before .before .before .before .before .pre .0 in part-narrow _ _ _ _ _ (g .ready) (g .seen)
 
 add-rejected : tie.Need-add-rejected
-add-rejected c = let s = c .before .before .before .before .before .before .before .before .before .before .before in let g = s .before .pre .0 in record { fits = mask-fits (g .ready .cols-most) (new-fits _ _ g _ (c .before .before .before .before .before .before .before .before .critical-of .ensures .0) _ (part-row _ _ _ _ _ (g .ready) (g .seen)) _ (c .before .above .ensures)) }
+add-rejected c = let g = c .before .before .before .before .before .before .before .before .before .before .before .before .pre .0 in record { fits = mask-fits (g .ready .cols-most) (new-fits _ _ g _ (c .before .before .before .before .before .before .before .before .bar-of .ensures .0) _ (part-row _ _ _ _ _ (g .ready) (g .seen)) _ (c .before .above .ensures)) }
 
-add-number : tie.Need-add-number
-add-number c = let g = c .before .before .before .before .before .before .before .before .before .before .before .before .before .before .pre .0 in omega (arith, g .steps-most)
+record-of-requires : tie.Need-record-of-requires
+record-of-requires c κs = (c .before .before .before .before .before .before .before .before .before .before .before .before .before .pre .0, c .before .before .before .before .before .before .before .before .before .bar-of .ensures .0)
+
+add-t14 : tie.Need-add-t14
+add-t14 c = let g = c .before .before .before .before .before .before .before .before .before .before .before .before .before .before .before .pre .0 in omega (arith, g .steps-most)
 
 returns : tie.Need-returns
-returns c =
-    let g = c .before .before .before .before .before .before .before .before .before .before .before .before .before .before .pre .0 in
-    let b = c .before .before .before .before .before .before .before .before .before .before .critical-of .ensures in
-    (step-is _ _ g _ (b .0) _ (part-row _ _ _ _ _ (g .ready) (g .seen)) _ (c .before .before .before .above .ensures) _ (c .before .ends .ensures), b .1)
+returns c = let g = c .before .before .before .before .before .before .before .before .before .before .before .before .before .before .before .pre .0 in let b = c .before .before .before .before .before .before .before .before .before .before .before .bar-of .ensures in (step-is _ _ g _ (b .0) _ (part-row _ _ _ _ _ (g .ready) (g .seen)) _ (c .before .before .before .before .above .ensures) _ _ (c .before .before .ends .ensures) (c .before .record-of .ensures), b .1)
 
 pub step-spec : {M : Type 1} → statement M
 step-spec =
@@ -52,6 +52,7 @@ step-spec =
     above-requires
     add-rejected
     (λ c κs. search needs)
-    add-number
+    record-of-requires
+    add-t14
     (λ c. search needs)
     returns)

@@ -1,0 +1,98 @@
+-- The lowest row that has a value.
+--   no-k-max                   where no value of a row equals v, its k-max over listed columns does not
+--   row-test                   the test of row g
+--   rows-hit, rows-on, rows-out     a search over the rows
+--   found-is                   the same among the k-max values of all rows, in the work buffer
+use Prim.Native.Nat.{ℕ, _+_, _-_, _*_, _≤_, _<_}
+use native.Mathlib.Omega.{arith}
+use mathlib.Core.Path.{_≡_, refl, sym, ap, ap₂, _∙_, subst}
+use mathlib.Core.Bool.{Bool, true, false, not, _&&_}
+use mathlib.Core.List.{List, [], map}
+use lib.ListN.{length, getD, take, drop, length-map}
+use lib.Dec.{T, ltb, ltb→lt}
+use lib.Ieee.{Float, nan}
+use borrow.Author.Tests.{ltb-false}
+use Rattle.order.specs.Order.{finite, equal, withPlusZero}
+use Rattle.order.specs.Counting.{count, all}
+use Rattle.order.specs.Lists.{rowsOf, firstAt}
+use Rattle.order.proofs.Booleans.{T-false, never, and-left, and-right}
+use Rattle.order.proofs.Counts.{none-counted, all-le, all-both, all-map, all-getD}
+use Rattle.order.proofs.Firsts.{first-map, first-hit, first-on, first-out}
+use Rattle.order.proofs.Keys.{equal-withPlusZero}
+use Rattle.order.proofs.Lists.{rowsOf-length}
+use Rattle.select.specs.Rank.{kthLargest, mthSmallest}
+use Rattle.select.proofs.Ranks.{kthLargest-holds}
+use Rattle.columns.specs.Columns.{columnsOf}
+use Rattle.method.specs.Method.{kMax, criticalValue}
+use Rattle.method.specs.Bars.{barRow}
+use Rattle.method.proofs.Critical.{tops}
+use Rattle.masks.specs.Internal.{CheckedTable}
+use Rattle.refusals.specs.Buffers.{written}
+use Rattle.critical.specs.Internal.{membersFrom, foundOf}
+use Rattle.critical.specs.declared.quantile.Found.{Found}
+use Rattle.critical.proofs.Members.{listed-finite}
+use Rattle.critical.proofs.TableRows.{row-value, front-is, quantile-is}
+
+pub no-k-max : (row : List Float) (list : List ℕ) (k : ℕ) (v : Float) → T (finite v) → T (all finite row) → T (all (λ j. ltb j (length row)) list) → 0 < k → k ≤ length list
+    → ltb 0 (count (λ x. equal v x) row) ≡ false → false ≡ equal v (kthLargest k (map (λ j. getD row j nan) list))
+no-k-max row list k v f fs listed pos few none =
+    sym (T-false (equal v (kthLargest k xs)) (λ t. off (equal v (kthLargest k xs)) t (kthLargest-holds k xs (listed-finite row list fs listed) pos (omega (arith, length-map list (λ j. getD row j nan))) (λ x. not (equal v x)) others)))
+  where
+    xs : List Float
+    xs = map (λ j. getD row j nan) list
+
+    off : (b : Bool) → T b → T (not b) → ⊥
+    off true t u = u
+    off false t u = t
+
+    apart : T (all (λ x. not (equal v (withPlusZero x))) row)
+    apart = all-le (λ x. finite x && not (equal v x)) (λ x. not (equal v (withPlusZero x))) row
+        (λ x t. subst (λ (b : Bool). T (not b)) (sym (equal-withPlusZero v x f (and-left (finite x) (not (equal v x)) t))) (and-right (finite x) (not (equal v x)) t))
+        (all-both finite (λ x. not (equal v x)) row fs (none-counted (λ x. equal v x) row (let h = ltb-false 0 (count (λ x. equal v x) row) none in omega (arith, h))))
+
+    others : T (all (λ x. not (equal v (withPlusZero x))) (map (λ j. getD row j nan) list))
+    others = subst (λ (b : Bool). T b) (sym (all-map (λ j. getD row j nan) (λ x. not (equal v (withPlusZero x))) list))
+        (all-le (λ j. ltb j (length row)) (λ j. not (equal v (withPlusZero (getD row j nan)))) list (λ j t. all-getD (λ x. not (equal v (withPlusZero x))) row j nan (ltb→lt j (length row) t) apart) listed)
+
+-- ---- from row to row
+
+module _ (t : List Float) (rows cols k set : ℕ) (list : List ℕ) (r : CheckedTable t rows cols k) (listed : list ≡ membersFrom 0 (columnsOf cols set)) (v : Float) (g : ℕ) (h : g < rows) where
+  abbrev p : List Float → Bool
+  p row = equal v (kMax k (columnsOf cols set) row)
+
+  row-test : {b : Bool} → b ≡ equal v (kthLargest k (map (λ j. getD (take (g * cols + cols - g * cols) (drop (g * cols) t)) j nan) list)) → (c : Bool) → b ≡ c → equal v (kMax k (columnsOf cols set) (getD (rowsOf rows cols t) g [])) ≡ c
+  row-test e c q = ap (equal v) (sym (row-value t rows cols k set list r listed g h refl)) ∙ sym e ∙ q
+
+  tall : g < length (rowsOf rows cols t)
+  tall = omega (arith, rowsOf-length rows cols t)
+
+  pub rows-hit : {b : Bool} → b ≡ equal v (kthLargest k (map (λ j. getD (take (g * cols + cols - g * cols) (drop (g * cols) t)) j nan) list)) → b ≡ true
+      → barRow k (rowsOf rows cols t) (columnsOf cols set) v ≡ g + firstAt (λ row. equal v (kMax k (columnsOf cols set) row)) (drop g (rowsOf rows cols t)) → g ≡ barRow k (rowsOf rows cols t) (columnsOf cols set) v
+  unfolding barRow
+  rows-hit e q l = first-hit p (rowsOf rows cols t) [] g tall (row-test e true q) l
+
+  pub rows-on : {b : Bool} → b ≡ equal v (kthLargest k (map (λ j. getD (take (g * cols + cols - g * cols) (drop (g * cols) t)) j nan) list)) → b ≡ false
+      → barRow k (rowsOf rows cols t) (columnsOf cols set) v ≡ g + firstAt (λ row. equal v (kMax k (columnsOf cols set) row)) (drop g (rowsOf rows cols t))
+      → barRow k (rowsOf rows cols t) (columnsOf cols set) v ≡ (g + 1) + firstAt (λ row. equal v (kMax k (columnsOf cols set) row)) (drop (g + 1) (rowsOf rows cols t))
+  unfolding barRow
+  rows-on e q l = first-on p (rowsOf rows cols t) [] g tall (row-test e false q) l
+
+module _ (t : List Float) (rows cols k set : ℕ) (v : Float) where
+  pub rows-start : barRow k (rowsOf rows cols t) (columnsOf cols set) v ≡ 0 + firstAt (λ row. equal v (kMax k (columnsOf cols set) row)) (drop 0 (rowsOf rows cols t))
+  unfolding barRow
+  rows-start = omega arith
+
+  pub rows-out : (g : ℕ) → rows ≤ g → g ≤ rows → barRow k (rowsOf rows cols t) (columnsOf cols set) v ≡ g + firstAt (λ row. equal v (kMax k (columnsOf cols set) row)) (drop g (rowsOf rows cols t)) → g ≡ barRow k (rowsOf rows cols t) (columnsOf cols set) v
+  unfolding barRow
+  rows-out g h l q = first-out (λ row. equal v (kMax k (columnsOf cols set) row)) (rowsOf rows cols t) [] g (omega (arith, rowsOf-length rows cols t)) (omega (arith, rowsOf-length rows cols t)) q
+
+-- ---- among the k-max values of all rows
+
+module _ (t : List Float) (rows cols k e set : ℕ) (r : CheckedTable t rows cols k) (few : e < rows) (w w₀ : List Float)
+    (p : w ≡ written (map (λ row. kMax k (columnsOf cols set) row) (rowsOf rows cols t)) w₀) where
+  pub found-is : (c : Float) (g : ℕ) → c ≡ mthSmallest (rows - e) (take rows w) → g ≡ firstAt (λ x. equal c x) (take rows w) → record { value = c; row = g } ≡ foundOf k e (rowsOf rows cols t) (columnsOf cols set)
+  unfolding foundOf barRow
+  found-is c g q l =
+      let v = quantile-is t rows cols k e set r few w w₀ p q in
+      ap₂ (λ (x : Float) (n : ℕ). record { value = x; row = n }) v
+      (l ∙ ap (firstAt (λ x. equal c x)) (front-is t rows cols k e set r few w w₀ p) ∙ first-map (λ row. kMax k (columnsOf cols set) row) (λ x. equal c x) (rowsOf rows cols t) ∙ ap (λ (x : Float). firstAt (λ row. equal x (kMax k (columnsOf cols set) row)) (rowsOf rows cols t)) v)

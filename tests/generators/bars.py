@@ -1,0 +1,225 @@
+"""Tables and trials with many ties, for the row and the offer of each critical value (document 02, §5).
+
+Few different values, zeros of both signs among them: a critical value stands in many rows and in many offers
+of a row, and many put-back sets give it. Most runs take several steps, so that sets are put back. Which wrong
+rows and offers these cases tell apart, test_bars.py says.
+"""
+
+from dataclasses import replace
+from itertools import cycle, islice, product
+
+from reference.balanced import full_run as run_balanced
+from reference.run import Run
+from reference.table import full_run as run_table
+from reference.trial import Trial, full_run as run_trial, make_trial
+from reference.trialfile import write
+
+from .balanced import run_case
+from .files import LONGEST_REPORT, report_room
+from .kinds import FileCase, RecordCase, StepCase, TableCase
+from .runs import walked
+from .trials import printed_codes
+
+TRIES = 40  # draws until a run takes as many steps as are asked for; then the last one does
+STEPS = (2, 3, 1, 2, 4)  # in turn
+
+
+# ---- tables: a style gives the rows but the observed one, in ranks from 0 up, and the observed one
+
+
+def few_values(rng, rows, columns, k):
+    """Three ranks; k columns or more are observed above them."""
+    table = [[rng.randrange(3) for _ in range(columns)] for _ in range(rows - 1)]
+    seen = [3] * rng.randint(k, columns) + [rng.randrange(4) for _ in range(columns)]
+    return table, rng.sample(seen[:columns], columns)
+
+
+def equal_columns(rng, rows, columns, k):
+    """Each column is one of three."""
+    which = [rng.randrange(3) for _ in range(columns)]
+    table, seen = few_values(rng, rows, 3, 1)
+    return [[row[i] for i in which] for row in table], [seen[i] for i in which]
+
+
+def equal_rows(rng, rows, columns, k):
+    """Each row is one of three."""
+    table, seen = few_values(rng, rows, columns, k)
+    return [rng.choice(table[:3]) for _ in table], seen
+
+
+def tiers(rng, rows, columns, k):
+    """Columns of falling tops, k or more of the highest, each observed just above its own: a tier falls in a step."""
+    tops = sorted(rng.choice((2, 4, 6)) for _ in range(columns - k)) + [8] * k
+    rng.shuffle(tops)
+    table = [[top - rng.choice((0, 0, 1, 2)) for top in tops] for _ in range(rows - 1)]
+    return table, [top + 1 for top in tops]
+
+
+def wide_tiers(rng, rows, columns, k):
+    """The same; a row is now and then far down in a column, so that it matters which set is put back."""
+    table, seen = tiers(rng, rows, columns, k)
+    return [[rng.choice((cell, cell, 0)) for cell in row] for row in table], seen
+
+
+def some_seen(rng, rows, columns, k):
+    """Ranks up to a column's own; the column's highest one is observed, or any."""
+    tops = [rng.randint(2, 5) for _ in range(columns)]
+    table = [[rng.randint(0, top) for top in tops] for _ in range(rows - 1)]
+    return table, [rng.choice((top + 1, top, rng.randint(0, top))) for top in tops]
+
+
+STYLES = (few_values, tiers, equal_columns, wide_tiers, equal_rows, wide_tiers)
+RANKED = (some_seen, few_values, equal_columns, some_seen)  # in a balanced table all tops are one
+
+
+def valued(rng, ranks, zero) -> list:
+    """The values of a row, with that rank as zero, of either sign."""
+    return [float(rank - zero) or rng.choice((0.0, -0.0)) for rank in ranks]
+
+
+def drawn_table(rng, style, rows, columns, k, number) -> TableCase:
+    """A table of that style, at a level of some rows."""
+    table, seen = style(rng, rows, columns, k)
+    observed = rng.randrange(rows)
+    table.insert(observed, seen)
+    zero = rng.randint(0, max(map(max, table)))
+    cells = tuple(value for row in table for value in valued(rng, row, zero))
+    e = rng.randint(1, max(1, rows // 3))
+    return TableCase(f"bar-table-{style.__name__}-{rows}x{columns}-k{k}-{number}", cells, rows, columns, k,
+                     e, rows, observed, rows + rng.randrange(2))
+
+
+def with_steps(draw, run_of, steps):
+    """The first draw whose run takes so many steps or more."""
+    for _ in range(TRIES):
+        drawn = draw()
+        if len(run_of(drawn).records) >= steps:
+            break
+    return drawn
+
+
+def bar_tables(rng, each, most_rows, most_columns, styles=STYLES, run_of=run_table):
+    """So many tables of each style for each k."""
+    for number, (_, k, style) in enumerate(product(range(each), (1, 2, 3, 4), styles)):
+        rows, columns = rng.randint(3, most_rows), rng.randint(k + 2, most_columns)
+        yield with_steps(lambda: drawn_table(rng, style, rows, columns, k, number),
+                         lambda case: run_of(case.values, case.rows, case.columns, case.k, case.a, case.b,
+                                             case.observed), STEPS[number % len(STEPS)])
+
+
+def given_runs(rng, how_many):
+    """Runs that are given: any k or more rejected, some left, and any level; a step then takes any sets."""
+    styles = cycle(STYLES)
+    for number, style in enumerate(islice(styles, how_many)):
+        k = number % 4 + 1
+        case = drawn_table(rng, style, rng.randint(2, 9), rng.randint(k + 2, k + 5), k, number)
+        held = rng.sample(range(case.columns), rng.randint(k, case.columns - 1))
+        a, b = rng.choice(((1, 16_383), (case.a, case.b), (1, 2)))
+        run = Run(case.rows, case.columns, k, a, b, case.observed, sum(1 << j for j in held),
+                  rng.randint(1, len(held)), False)
+        yield StepCase(f"bar-step-{style.__name__}-{case.rows}x{case.columns}-k{k}-{number}", run,
+                       case.values, case.work_room)
+
+
+# ---- trials: a style gives the differences of the offers that are not set aside
+
+
+def few_sums(rng, offers, pairs):
+    return [[rng.choice((-1, 0, 1, 2)) for _ in range(pairs)] for _ in range(offers)]
+
+
+def rising(rng, offers, pairs):
+    """No difference below 0: the observed row has the largest sums."""
+    return [[rng.choice((0, 1, 1, 2)) for _ in range(pairs)] for _ in range(offers)]
+
+
+def alike(rng, offers, pairs):
+    """Each offer is one of three."""
+    three = [*rising(rng, 2, pairs), *few_sums(rng, 1, pairs)]
+    return [rng.choice(three) for _ in range(offers)]
+
+
+def opposite(rng, offers, pairs):
+    """Each offer is one of two, or that one with all signs changed."""
+    two = [*rising(rng, 1, pairs), *few_sums(rng, 1, pairs)]
+    return [[cent * sign for cent in rng.choice(two)] for sign in rng.choices((1, 1, -1), k=offers)]
+
+
+def scaled(rng, offers, pairs):
+    """Few sums on three scales: the offers of the largest one are rejected first."""
+    return [[cent * size for cent in cents] for cents, size
+            in zip(rising(rng, offers, pairs), rng.choices((1, 1, 2, 4), k=offers))]
+
+
+TRIAL_STYLES = (few_sums, scaled, alike, rising, opposite, scaled)
+
+
+def drawn_trial(rng, style, offers, pairs, k, left) -> Trial:
+    """So many offers are left, in any places; at a level of some rows."""
+    differences = [[0] * pairs for _ in range(offers)]
+    for place, cents in zip(rng.sample(range(offers), left), style(rng, left, pairs), strict=True):
+        differences[place] = cents if any(cents) else [1] * pairs
+    rows = 2 ** pairs
+    level = rng.randint(1, max(1, rows // 3)), rows
+    return make_trial(level, k, list(zip(printed_codes(rng, offers), differences)))
+
+
+def bar_trials(rng, each, most_offers, most_pairs):
+    """(name, trial): so many of each style for each k, every other one with offers set aside."""
+    for number, (_, k, style) in enumerate(product(range(each), (1, 2, 3, 4), TRIAL_STYLES)):
+        offers, pairs = rng.randint(k + 3, most_offers), rng.randint(2, most_pairs)
+        left = offers if number % 2 else rng.randint(k + 1, offers - 1)
+        trial = with_steps(lambda: drawn_trial(rng, style, offers, pairs, k, left), run_trial,
+                           STEPS[number % len(STEPS)])
+        yield f"{style.__name__}-{offers}x{pairs}-k{k}-left{left}-{number}", trial
+
+
+# ---- cases
+
+
+def bar_file_cases(rng):
+    for name, trial in bar_trials(rng, 4, 10, 5):
+        data = write(trial)
+        yield FileCase(f"bar-file-{name}", data, trial.offers, report_room(rng, data))
+
+
+def bar_record_cases(rng):
+    """Plain and balanced full runs."""
+    for name, trial in bar_trials(rng, 2, 8, 4):
+        rows = 2 ** trial.pairs
+        yield RecordCase(f"bar-record-{name}", trial, 652, rows * trial.offers, rows)
+
+
+def bar_table_cases(rng):
+    """Every other one through a view."""
+    for turn, case in enumerate(bar_tables(rng, 5, 12, 8)):
+        yield replace(case, viewed=turn % 2 == 1)
+
+
+def bar_walk_cases(rng):
+    """Runs by steps, begun or given, every other one through a view."""
+    for turn, case in enumerate(bar_tables(rng, 2, 9, 7)):
+        yield walked(replace(case, viewed=turn % 2 == 1))
+    for turn, case in enumerate(given_runs(rng, 72)):
+        yield replace(case, viewed=turn % 2 == 1)
+
+
+def bar_balanced_cases(rng):
+    for case in bar_tables(rng, 5, 12, 8, RANKED, run_balanced):
+        yield run_case(case, case.rows * case.columns)
+
+
+def further_bar_files(rng):
+    """Larger trials, up to the largest."""
+    for name, trial in bar_trials(rng, 10, 16, 6):
+        yield FileCase(f"further-bar-file-{name}", write(trial), 16, LONGEST_REPORT)
+    for name, trial in bar_trials(rng, 1, 11, 9):
+        yield FileCase(f"further-bar-long-{name}", write(trial), 16, LONGEST_REPORT)
+
+
+def further_bar_tables(rng):
+    """Many more, and some with more rows and columns."""
+    for case in bar_tables(rng, 30, 12, 10):
+        yield replace(case, name=f"further-{case.name}")
+    for case in bar_tables(rng, 2, 400, 12):
+        yield replace(case, name=f"large-{case.name}")
