@@ -1,8 +1,9 @@
 -- Laws of the lowest column of a set.
 --   lowest-has, lowest-first      it is in the set, and no lower one is
+--   lowest-le                     it is at most the number of columns
 --   lowest-some                   a set with a column has a lowest one
 --   has-equalTo                   a column's value equals v exactly where the column is among those
-use Prim.Native.Nat.{ℕ, _<_}
+use Prim.Native.Nat.{ℕ, _≤_, _<_}
 use native.Mathlib.Omega.{arith}
 use mathlib.Core.Path.{_≡_}
 use mathlib.Core.Bool.{true, false}
@@ -14,7 +15,7 @@ use Rattle.order.specs.Order.{equal}
 use Rattle.order.specs.Counting.{count}
 use Rattle.order.specs.Lists.{firstAt}
 use Rattle.order.proofs.Lists.{getD-map}
-use Rattle.order.proofs.Firsts.{first-passes, first-before}
+use Rattle.order.proofs.Firsts.{first-le, first-passes, first-before}
 use Rattle.columns.specs.Columns.{Columns, size, equalTo, lowest}
 use Rattle.columns.proofs.Sets.{has}
 
@@ -25,6 +26,10 @@ lowest-has K h = first-passes (λ b. b) K false h
 pub lowest-first : (K : Columns) (j : ℕ) → j < lowest K → has K j ≡ false
 unfolding lowest
 lowest-first K j h = first-before (λ b. b) K false j h
+
+pub lowest-le : (K : Columns) → lowest K ≤ length K
+unfolding lowest
+lowest-le K = first-le (λ b. b) K
 
 pub lowest-some : (K : Columns) → 0 < size K → lowest K < length K
 unfolding lowest firstAt size count

@@ -15,7 +15,7 @@ use borrow.Author.Tests.{ltb-false}
 use Rattle.order.specs.Order.{finite, equal, withPlusZero}
 use Rattle.order.specs.Counting.{count, all}
 use Rattle.order.specs.Lists.{rowsOf, firstAt}
-use Rattle.order.proofs.Booleans.{T-false, never, and-left, and-right}
+use Rattle.order.proofs.Booleans.{T-false, and-left, and-right}
 use Rattle.order.proofs.Counts.{none-counted, all-le, all-both, all-map, all-getD}
 use Rattle.order.proofs.Firsts.{first-map, first-hit, first-on, first-out}
 use Rattle.order.proofs.Keys.{equal-withPlusZero}
@@ -23,13 +23,11 @@ use Rattle.order.proofs.Lists.{rowsOf-length}
 use Rattle.select.specs.Rank.{kthLargest, mthSmallest}
 use Rattle.select.proofs.Ranks.{kthLargest-holds}
 use Rattle.columns.specs.Columns.{columnsOf}
-use Rattle.method.specs.Method.{kMax, criticalValue}
+use Rattle.method.specs.Method.{kMax}
 use Rattle.method.specs.Bars.{barRow}
-use Rattle.method.proofs.Critical.{tops}
 use Rattle.masks.specs.Internal.{CheckedTable}
 use Rattle.refusals.specs.Buffers.{written}
 use Rattle.critical.specs.Internal.{membersFrom, foundOf}
-use Rattle.critical.specs.declared.quantile.Found.{Found}
 use Rattle.critical.proofs.Members.{listed-finite}
 use Rattle.critical.proofs.TableRows.{row-value, front-is, quantile-is}
 

@@ -1,7 +1,7 @@
 -- Which column set a critical value.
 --   column-there, column-has, column-first     some column of K has a row's k-max: the one that is told has it, and no lower one
 --   row-there, row-equal, row-first            some row's k-max over K is c(K): that of the row that is told is, and of no lower one; row-value: it is c(K) itself
---   set-equal, set-before, set-holds           of some sets one of which has c, the one that is told has it, and none before it; set-value: c itself
+--   set-placed, set-equal, set-before, set-holds     of some sets one of which has c, the one that is told has it, and none before it; set-value: c itself
 --   alone-there, alone-set, put-there, put-most     of one set, and of the sets with k - 1 columns put back, one has the critical value, and none a larger one
 use Prim.Native.Nat.{ℕ, _-_, _≤_, _<_}
 use native.Mathlib.Omega.{arith}
@@ -16,17 +16,17 @@ use lib.Ieee.{Float, nan}
 use Rattle.order.specs.Order.{finite, atMost, equal, withPlusZero}
 use Rattle.order.specs.Counting.{count, all}
 use Rattle.order.specs.Lists.{firstAt}
-use Rattle.order.proofs.Booleans.{never, and-left, and-right, true-T}
+use Rattle.order.proofs.Booleans.{and-left, and-right, true-T}
 use Rattle.order.proofs.Counts.{all-getD, all-le, all-map, all-both, all-true, count-some}
 use Rattle.order.proofs.Firsts.{first-passes, first-before, first-none}
 use Rattle.order.proofs.Keys.{key, atMost-key, zero-finite, equal-self, equal-key, equal-withPlusZero, withPlusZero-same}
 use Rattle.order.proofs.Rows.{Finite, Sound, soundRow, sound-length, sound-finite, sound-all}
-use Rattle.select.specs.Rank.{kthLargest, mthSmallest}
+use Rattle.select.specs.Rank.{kthLargest}
 use Rattle.select.proofs.Ranks.{kthLargest-ranks, kthLargest-holds, mthSmallest-holds}
 use Rattle.columns.specs.Columns.{Columns, size, _∪_, _∩_, within, choose, equalTo, lowest}
 use Rattle.columns.proofs.Sets.{has, has-∩, length-∩, within-length, within-all, size-test}
 use Rattle.columns.proofs.PutBack.{choose-some}
-use Rattle.columns.proofs.Lowest.{lowest-has, lowest-first, lowest-some, has-equalTo}
+use Rattle.columns.proofs.Lowest.{lowest-has, lowest-first, lowest-le, lowest-some, has-equalTo}
 use Rattle.method.specs.Method.{kMax, criticalValue, putBack}
 use Rattle.method.specs.Bars.{kMaxColumn, barSet, barRow}
 use Rattle.method.proofs.Critical.{tops, tops-finite, kMax-plain, criticalValue-finite, criticalValue-plain, sets-finite, putBack-keeps, putBack-reaches}
@@ -77,23 +77,27 @@ module _ (k : ℕ) (K : Columns) (row : List Float) (s : T (soundRow (length K) 
   joint : length (K ∩ equalTo (kMax k K row) row) ≡ length K
   joint = length-∩ K (equalTo (kMax k K row) row) even
 
-  pub column-there : kMaxColumn k K row < length K
-  unfolding kMaxColumn
-  column-there = omega (arith, lowest-some (K ∩ equalTo (kMax k K row) row) some, joint)
-
   -- which columns of K have it
   with-value : (j : ℕ) → j < length K → has (K ∩ equalTo (kMax k K row) row) j ≡ (has K j && equal (kMax k K row) (getD row j nan))
   with-value j h = has-∩ K (equalTo (kMax k K row) row) even j ∙ ap (λ (b : Bool). has K j && b) (has-equalTo (kMax k K row) row j (omega (arith, sound-length (length K) row s)))
+
+  pub column-first : (j : ℕ) → j < kMaxColumn k K row → (has K j && equal (kMax k K row) (getD row j nan)) ≡ false
+  unfolding kMaxColumn
+  column-first j h = sym (with-value j (omega (arith, lowest-le (K ∩ equalTo (kMax k K row) row), joint))) ∙ lowest-first (K ∩ equalTo (kMax k K row) row) j h
+
+  pub column-there : kMaxColumn k K row < length K
+  unfolding kMaxColumn
+  column-there = omega (arith, lowest-some (K ∩ equalTo (kMax k K row) row) some, joint)
 
   pub column-has : T (has K (kMaxColumn k K row) && equal (kMax k K row) (getD row (kMaxColumn k K row) nan))
   unfolding kMaxColumn
   column-has = subst (λ (b : Bool). T b) (with-value (kMaxColumn k K row) column-there) (lowest-has (K ∩ equalTo (kMax k K row) row) (lowest-some (K ∩ equalTo (kMax k K row) row) some))
 
-  pub column-first : (j : ℕ) → j < kMaxColumn k K row → (has K j && equal (kMax k K row) (getD row j nan)) ≡ false
-  unfolding kMaxColumn
-  column-first j h = sym (with-value j (omega (arith, column-there))) ∙ lowest-first (K ∩ equalTo (kMax k K row) row) j h
-
 -- ---- the row of a critical value
+
+pub row-first : (k : ℕ) (X : List (List Float)) (K : Columns) (c : Float) (g : ℕ) → g < barRow k X K c → equal c (kMax k K (getD X g [])) ≡ false
+unfolding barRow
+row-first k X K c g h = first-before (λ row. equal c (kMax k K row)) X [] g h
 
 module _ (n k e : ℕ) (X : List (List Float)) (s : Sound n X) (pos : 0 < k) (few : e < length X) (K : Columns) (h : length K ≡ n) (wide : k ≤ size K) where
   row-sound : (row : List Float) → T (soundRow n row) → T (soundRow (length K) row)
@@ -115,10 +119,6 @@ module _ (n k e : ℕ) (X : List (List Float)) (s : Sound n X) (pos : 0 < k) (fe
       let t = row-sound row (all-getD (soundRow n) X (barRow k X K (criticalValue k e X K)) [] row-there s) in
       sym (equal-same (criticalValue k e X K) (kMax k K row) (criticalValue-finite n k e X K s) (kMax-finite k K row t pos wide) (criticalValue-plain k e X K) (kMax-plain k K row t pos wide) row-equal)
 
-pub row-first : (k : ℕ) (X : List (List Float)) (K : Columns) (c : Float) (g : ℕ) → g < barRow k X K c → equal c (kMax k K (getD X g [])) ≡ false
-unfolding barRow
-row-first k X K c g h = first-before (λ row. equal c (kMax k K row)) X [] g h
-
 -- ---- the set of a critical value
 
 module _ (k e : ℕ) (X : List (List Float)) (Ks : List Columns) (c : Float) where
@@ -126,17 +126,20 @@ module _ (k e : ℕ) (X : List (List Float)) (Ks : List Columns) (c : Float) whe
   abbrev pub setPlace : ℕ
   setPlace = firstAt (λ K. equal c (criticalValue k e X K)) Ks
 
+  -- it is the set at that place
+  pub set-placed : barSet k e X Ks c ≡ getD Ks setPlace []
+  unfolding barSet
+  set-placed = refl
+
   pub set-before : (i : ℕ) → i < setPlace → equal c (criticalValue k e X (getD Ks i [])) ≡ false
   set-before i h = first-before (λ K. equal c (criticalValue k e X K)) Ks [] i h
 
   module _ (there : firstAt (λ K. equal c (criticalValue k e X K)) Ks < length Ks) where
     pub set-equal : T (equal c (criticalValue k e X (barSet k e X Ks c)))
-    unfolding barSet
-    set-equal = first-passes (λ K. equal c (criticalValue k e X K)) Ks [] there
+    set-equal = rw set-placed (first-passes (λ K. equal c (criticalValue k e X K)) Ks [] there)
 
     pub set-holds : (p : Columns → Bool) → T (all p Ks) → T (p (barSet k e X Ks c))
-    unfolding barSet
-    set-holds p t = all-getD p Ks setPlace [] there t
+    set-holds p t = rw set-placed (all-getD p Ks setPlace [] there t)
 
     pub set-value : (n : ℕ) → Sound n X → T (finite c) → withPlusZero c ≡ c → criticalValue k e X (barSet k e X Ks c) ≡ c
     set-value n s f q =

@@ -4,10 +4,10 @@
 --   branch-ready, branch-bar     of the sets of a branch: what its set is known to be, and all of it
 --   one-some, put-some     there is a set
 --   one-bar, left-bar, put-bar   where the branch is one set; the columns left, with k = 1; all choices
-use Prim.Native.Nat.{ℕ, _+_, _-_, _^_, _≤_, _<_}
+use Prim.Native.Nat.{ℕ, _-_, _^_, _≤_, _<_}
 use native.Mathlib.Omega.{arith}
 use mathlib.Core.Path.{_≡_, refl, sym, ap, ap₂, _∙_, subst}
-use mathlib.Core.Bool.{Bool, true, _&&_}
+use mathlib.Core.Bool.{true, _&&_}
 use mathlib.Core.List.{List, [], _∷_, map}
 use lib.ListN.{length, getD, length-map}
 use lib.Dec.{T, eqb, leb, eqb→eq, leb→le, le→leb}
@@ -34,7 +34,7 @@ use Rattle.putback.specs.declared.Bar.{Bar}
 use Rattle.putback.specs.declared.branch.Branch.{Branch}
 use Rattle.putback.specs.declared.walk.Best.{Best}
 use Rattle.putback.proofs.Better.{better-value}
-use Rattle.putback.proofs.Branches.{Member, sets-each, sets-all, sets-leaf}
+use Rattle.putback.proofs.Branches.{sets-each, sets-all, sets-leaf}
 use Rattle.putback.proofs.PutBackValue.{values-finite, values-plain, best-member, lowest-under, put-back-value, one-value, one-left}
 use Rattle.putback.proofs.FirstBest.{keyPlace, better-first, first-there, same-start}
 

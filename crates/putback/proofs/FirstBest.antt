@@ -5,25 +5,23 @@
 --   bar-held         the first set that gives the largest value, with that value: its mask, and what holds of it
 use Prim.Native.Nat.{ℕ, suc, _≤_, _<_}
 use native.Mathlib.Omega.{arith}
-use mathlib.Core.Path.{_≡_, refl, sym, ap, ap₂, _∙_, subst}
+use mathlib.Core.Path.{_≡_, refl, sym, ap, _∙_, subst}
 use mathlib.Core.Logic.{_⊎_, inl, inr}
-use mathlib.Core.Bool.{Bool, true, false, not, cond, _&&_}
+use mathlib.Core.Bool.{Bool, true, false, not, cond}
 use mathlib.Core.List.{List, [], _∷_, map}
 use lib.ListN.{length, getD, length-map}
 use lib.Dec.{T, ltb, leb, eqb, ltb→lt, leb→le}
 use lib.Ieee.{Float, inf}
-use borrow.Author.Tests.{lt-ltb, le-ltb, eqb-true, eqb-false, eq-eqb}
-use Rattle.order.specs.Order.{finite, low, smaller, equal, withPlusZero}
+use borrow.Author.Tests.{lt-ltb, le-ltb, eqb-true, eqb-false}
+use Rattle.order.specs.Order.{finite, low, smaller, withPlusZero}
 use Rattle.order.specs.Counting.{count, all}
 use Rattle.order.specs.Lists.{firstAt}
 use Rattle.order.proofs.Booleans.{and-left, and-right, true-T, leb-not}
-use Rattle.order.proofs.Counts.{none-counted, count-map, all-le, all-getD, all-true}
-use Rattle.order.proofs.Firsts.{first-same}
+use Rattle.order.proofs.Counts.{none-counted, count-map, all-le}
 use Rattle.order.proofs.Infinities.{finite-low, smaller-low}
-use Rattle.order.proofs.Keys.{key, equal-is}
-use Rattle.order.proofs.Rows.{Finite}
+use Rattle.order.proofs.Keys.{key}
 use Rattle.columns.specs.Columns.{Columns, maskOf}
-use Rattle.putback.specs.Internal.{better, bestOf}
+use Rattle.putback.specs.Internal.{better}
 use Rattle.putback.specs.declared.walk.Best.{Best}
 use Rattle.putback.proofs.Better.{better-stays, better-value}
 use Rattle.putback.proofs.PutBackValue.{best-least, best-holds, all-finite, same-best, lowest-under}

@@ -33,7 +33,6 @@ use Rattle.critical.specs.Internal.{Marked}
 use Rattle.critical.specs.declared.Figures.{Figures}
 use Rattle.critical.proofs.Raising.{marked-inside, marked-columns, marked-count, marked-again}
 use Rattle.putback.specs.Internal.{best, better, setsOf, unite, hopelessIn, At, Going}
-use Rattle.putback.specs.declared.walk.Best.{Best}
 use Rattle.putback.specs.declared.branch.Branch.{Branch}
 use Rattle.putback.specs.declared.walk.Held.{Held}
 use Rattle.putback.proofs.Better.{better-stays, better-taken}

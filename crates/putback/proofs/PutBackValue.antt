@@ -13,9 +13,9 @@ use borrow.Author.Tests.{ltb-true, ltb-false, lt-ltb, le-ltb}
 use Rattle.order.specs.Order.{finite, low, smaller, larger, withPlusZero}
 use Rattle.order.specs.Counting.{bit, count, all}
 use Rattle.order.specs.Lists.{rowsOf}
-use Rattle.order.proofs.Booleans.{and-left, and-right, and-both, true-T}
+use Rattle.order.proofs.Booleans.{and-left, and-right, and-both}
 use Rattle.order.proofs.Counts.{count-length}
-use Rattle.order.proofs.Infinities.{finite-low, low-finite, smaller-low}
+use Rattle.order.proofs.Infinities.{finite-low, smaller-low}
 use Rattle.order.proofs.Keys.{key, key-some}
 use Rattle.order.proofs.Rows.{Finite, Sound, rowsOf-sound}
 use Rattle.select.specs.Rank.{kthLargest}
@@ -26,7 +26,6 @@ use Rattle.method.specs.Method.{criticalValue, putBack}
 use Rattle.method.proofs.Critical.{criticalValue-finite, criticalValue-plain}
 use Rattle.masks.specs.Internal.{CheckedTable}
 use Rattle.putback.specs.Internal.{bestOf, setsOf}
-use Rattle.putback.specs.declared.branch.Branch.{Branch}
 use Rattle.putback.proofs.Branches.{sets-all, sets-leaf}
 
 -- ---- the larger of two

@@ -8,7 +8,7 @@
 --   record-set-by, record-offer     so does each record of a full run; its offer is a live column
 use Prim.Native.Nat.{ℕ, zero, suc, _+_, _-_, _≤_, _<_}
 use native.Mathlib.Omega.{arith}
-use mathlib.Core.Path.{_≡_, refl, sym, ap, ap₂, _∙_, subst}
+use mathlib.Core.Path.{_≡_, refl, sym, ap, _∙_, subst}
 use mathlib.Core.Bool.{Bool, true, false, _&&_}
 use mathlib.Core.List.{List, [], _∷_, map}
 use lib.ListN.{length, getD, length-map}
@@ -16,14 +16,13 @@ use lib.Dec.{T, leb→le}
 use lib.Ieee.{Float, nan}
 use borrow.Author.Tests.{lt-ltb, eqb-false}
 use Rattle.order.specs.Order.{finite, smaller, atMost, equal, withPlusZero}
-use Rattle.order.specs.Lists.{firstAt}
-use Rattle.order.proofs.Booleans.{and-left, and-right, true-T, T-true, T-false}
+use Rattle.order.proofs.Booleans.{and-left, and-right, true-T}
 use Rattle.order.proofs.Counts.{all-getD}
 use Rattle.order.proofs.Keys.{key, smaller-key, atMost-key, equal-is, equal-self}
 use Rattle.order.proofs.Lists.{getD-map}
-use Rattle.order.proofs.Rows.{Sound, soundRow, sound-length}
-use Rattle.columns.specs.Columns.{Columns, size, _∪_, _∖_, choose}
-use Rattle.columns.proofs.Sets.{has, has-length, _⊆_, ⊆-refl, ⊆-at, ⊆-length}
+use Rattle.order.proofs.Rows.{Sound, soundRow}
+use Rattle.columns.specs.Columns.{Columns, size, _∪_, choose}
+use Rattle.columns.proofs.Sets.{has, _⊆_, ⊆-refl, ⊆-at, ⊆-length}
 use Rattle.columns.proofs.PutBack.{choose-member, size-put, put-in}
 use Rattle.method.specs.Method.{kMax, criticalValue, putBack}
 use Rattle.method.specs.Bars.{kMaxColumn, barSet, barRow}

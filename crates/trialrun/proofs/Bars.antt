@@ -5,7 +5,7 @@
 --   plain-set-by, plain-offer     both, of the plain run
 use Prim.Native.Nat.{ℕ, _-_, _≤_, _<_}
 use native.Mathlib.Omega.{arith}
-use mathlib.Core.Path.{_≡_, refl, sym, ap, _∙_, subst}
+use mathlib.Core.Path.{_≡_, refl, sym, ap, _∙_}
 use mathlib.Core.Bool.{Bool, true, false, not}
 use mathlib.Core.List.{List}
 use lib.ListN.{length, getD}
@@ -15,7 +15,6 @@ use Rattle.order.proofs.Booleans.{T-true}
 use Rattle.order.proofs.Rows.{Sound}
 use Rattle.refusals.specs.Limits.{allowance}
 use Rattle.refusals.proofs.Limits.{allowance-lt}
-use Rattle.columns.specs.Columns.{inSet}
 use Rattle.columns.proofs.Masks.{has-columnsOf}
 use Rattle.runs.specs.Stepdown.{fullRun}
 use Rattle.runs.specs.SetBy.{RecordSetBy}
