@@ -70,7 +70,7 @@ static size_t offer_with(const double *row, const uint8_t *set, size_t n, double
 }
 
 /* Raises `best` to c(K) where that is above it. */
-static void raise(const struct table *t, const uint8_t *set, size_t n, struct bar *best)
+static void raise_to(const struct table *t, const uint8_t *set, size_t n, struct bar *best)
 {
     double c = critical_value(t, set, n);
     if (c <= best->critical)
@@ -88,7 +88,7 @@ static void put_back(const struct table *t, struct full_run *run, uint8_t *set, 
 {
     if (more == 0) {
         run->sets++;
-        raise(t, set, n, best);
+        raise_to(t, set, n, best);
         return;
     }
     for (size_t i = 0; i + more <= left; i++) {

@@ -1,12 +1,13 @@
 """Tables and trials with many ties, for the row and the offer of each critical value (document 02, §5).
 
 Few different values, zeros of both signs among them: a critical value stands in many rows and in many offers
-of a row, and many put-back sets give it. Most runs take several steps, so that sets are put back. Which wrong
-rows and offers these cases tell apart, test_bars.py says.
+of a row, and many put-back sets give it. Most runs take several steps, so that sets are put back. Some tables
+are made for the order of these sets, the last offer of 32 or a row above 255. Which wrong rows and offers these
+cases tell apart, test_bars.py says.
 """
 
 from dataclasses import replace
-from itertools import cycle, islice, product
+from itertools import chain, cycle, islice, product
 
 from reference.balanced import full_run as run_balanced
 from reference.run import Run
@@ -68,6 +69,40 @@ def some_seen(rng, rows, columns, k):
     return table, [rng.choice((top + 1, top, rng.randint(0, top))) for top in tops]
 
 
+def apart(rng, rows, columns, k):
+    """Two choices of k - 1 columns give one value, each in rows of its own, more than any level leaves out.
+
+    For k 3 or 4 and 7 rows or more. One choice has the lowest and the highest of these columns: it is the first one,
+    but not by its mask. A row has one column more with the value, of those that are left.
+    """
+    mixed = rng.sample(range(columns), columns)
+    low, *middle, high = sorted(mixed[:2 * k - 2])
+    rng.shuffle(middle)
+    choices = [low, high, *middle[k - 1:]], middle[:k - 1]
+    rejected, left = mixed[:rng.randint(2 * k - 2, columns - 1)], mixed[-1]
+    table = [[rng.randrange(3) for _ in range(columns)] for _ in range(rows - 1)]
+    for turn, row in enumerate(rng.sample(table, rows - 1)):
+        for j in (*choices[turn % 2], left):
+            row[j] = 3
+    return table, [4 if j in rejected else rng.randrange(3) for j in range(columns)]
+
+
+def last_offer(rng, rows, columns, k):
+    """The k-max of each row is in the last column, over all of them and with k - 1 certain ones put back."""
+    tops = rng.sample(range(columns - 1), k + rng.randrange(3))
+    table = [[rng.randrange(3) for _ in range(columns - 1)] + [rng.randint(3, 4)] for _ in range(rows - 1)]
+    for row in table:
+        for j in tops[:k - 1]:
+            row[j] = 5
+    return table, [6 if j in tops else rng.randrange(3) for j in range(columns)]
+
+
+def late_rows(rng, rows, columns, k):
+    """The rows after the first 256 are the higher ones; 390 rows or more, so that no level reaches below them."""
+    table = [[rng.randrange(3) + 3 * (row >= 256) for _ in range(columns)] for row in range(rows - 1)]
+    return table, [6] * k + [rng.randrange(3) for _ in range(columns - k)]
+
+
 STYLES = (few_values, tiers, equal_columns, wide_tiers, equal_rows, wide_tiers)
 RANKED = (some_seen, few_values, equal_columns, some_seen)  # in a balanced table all tops are one
 
@@ -105,6 +140,25 @@ def bar_tables(rng, each, most_rows, most_columns, styles=STYLES, run_of=run_tab
         yield with_steps(lambda: drawn_table(rng, style, rows, columns, k, number),
                          lambda case: run_of(case.values, case.rows, case.columns, case.k, case.a, case.b,
                                              case.observed), STEPS[number % len(STEPS)])
+
+
+def tables_apart(rng, how_many, most_rows, most_columns):
+    """So many tables whose sets tie in rows of their own."""
+    for number in range(how_many):
+        k = 3 + number % 2
+        yield drawn_table(rng, apart, rng.randint(7, most_rows), rng.randint(2 * k - 1, most_columns), k, number)
+
+
+def last_offers(rng, most_rows):
+    """Tables of 32 columns, one for each k."""
+    for number, k in enumerate((1, 2, 3, 4)):
+        yield drawn_table(rng, last_offer, rng.randint(3, most_rows), 32, k, number)
+
+
+def late_tables(rng, rows):
+    """Two tables of few columns."""
+    for number, (columns, k) in enumerate(((2, 1), (3, 2))):
+        yield drawn_table(rng, late_rows, rows, columns, k, number)
 
 
 def given_runs(rng, how_many):
@@ -192,20 +246,22 @@ def bar_record_cases(rng):
 
 def bar_table_cases(rng):
     """Every other one through a view."""
-    for turn, case in enumerate(bar_tables(rng, 5, 12, 8)):
+    plain = bar_tables(rng, 5, 12, 8), tables_apart(rng, 24, 9, 8), last_offers(rng, 5), late_tables(rng, 390)
+    for turn, case in enumerate(chain(*plain)):
         yield replace(case, viewed=turn % 2 == 1)
 
 
 def bar_walk_cases(rng):
     """Runs by steps, begun or given, every other one through a view."""
-    for turn, case in enumerate(bar_tables(rng, 2, 9, 7)):
+    begun = bar_tables(rng, 2, 9, 7), tables_apart(rng, 16, 9, 8), last_offers(rng, 4)
+    for turn, case in enumerate(chain(*begun)):
         yield walked(replace(case, viewed=turn % 2 == 1))
     for turn, case in enumerate(given_runs(rng, 72)):
         yield replace(case, viewed=turn % 2 == 1)
 
 
 def bar_balanced_cases(rng):
-    for case in bar_tables(rng, 5, 12, 8, RANKED, run_balanced):
+    for case in chain(bar_tables(rng, 5, 12, 8, RANKED, run_balanced), tables_apart(rng, 16, 9, 8)):
         yield run_case(case, case.rows * case.columns)
 
 
@@ -219,7 +275,7 @@ def further_bar_files(rng):
 
 def further_bar_tables(rng):
     """Many more, and some with more rows and columns."""
-    for case in bar_tables(rng, 30, 12, 10):
+    for case in chain(bar_tables(rng, 30, 12, 10), tables_apart(rng, 120, 20, 12), last_offers(rng, 40)):
         yield replace(case, name=f"further-{case.name}")
-    for case in bar_tables(rng, 2, 400, 12):
+    for case in chain(bar_tables(rng, 2, 400, 12), tables_apart(rng, 8, 400, 12), late_tables(rng, 600)):
         yield replace(case, name=f"large-{case.name}")

@@ -11,7 +11,7 @@ from .kinds import FileCase
 from .trials import W_OFFERS, some_trial, valid_trials
 
 KINDS = range(16)
-LONGEST_REPORT = 3000  # and some more
+LONGEST_REPORT = 3000  # more than any report has
 W = make_trial((1, 4), 1, W_OFFERS)
 # Three offers and two pairs: room for an earlier and a later bad place of each sort.
 BASE = make_trial((2, 8), 2, [("007", (4, 5)), ("42", (3, 1)), ("100", (-2, 6))])

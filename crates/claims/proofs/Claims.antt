@@ -4,8 +4,8 @@
 -- beside this page lists them, with the stated orders. docs/CLAIMS.md maps every sentence of document 01, and of the requests, to what keeps it.
 use Prim.Native.Nat.{ℕ, suc, _+_, _*_, _-_, _^_, _≤_, _<_}
 use mathlib.Core.Path.{_≡_, refl, _∙_}
-use mathlib.Core.Bool.{Bool, true, false}
-use mathlib.Core.List.{List, [], _∷_, map}
+use mathlib.Core.Bool.{Bool, true, false, _&&_}
+use mathlib.Core.List.{List, [], _∷_, _++_, map}
 use mathlib.Core.Logic.{_↔_, _⊎_}
 use lib.ListN.{length, getD, replicate, take}
 use lib.Dec.{T, ltb}
@@ -16,6 +16,7 @@ use Rattle.order.specs.Order.{plusZero, finite, smaller, atMost, equal}
 use Rattle.order.specs.Counting.{count, all}
 use Rattle.order.specs.Lists.{rowsOf}
 use Rattle.order.specs.Places.{place}
+use Rattle.order.proofs.Rows.{soundRow}
 use Rattle.order.proofs.Places as places
 use Rattle.select.specs.Rank.{mthSmallest}
 use Rattle.select.specs.Passes.{topBits, Search}
@@ -25,7 +26,9 @@ use Rattle.refusals.specs.Limits.{allowance}
 use Rattle.refusals.specs.Buffers.{written, cleared}
 use Rattle.refusals.proofs.Answers.{Answered, answered, none-holds}
 use Rattle.columns.specs.Columns.{Columns, size, _∪_, _∖_, within, choose, everyColumn}
-use Rattle.method.specs.Method.{atLeast}
+use Rattle.method.specs.Method.{kMax, atLeast}
+use Rattle.method.specs.Bars.{kMaxColumn}
+use Rattle.method.proofs.Bars as of-a-row
 use Rattle.runs.specs.Stepdown.{liveSet, rejectedSet, leftOver, stepSets, newlyRejected, fullRun}
 use Rattle.runs.specs.FullRuns.{acceptedRun, refusedRun, verdictsIn, isRejected, isAside}
 use Rattle.runs.specs.SetBy.{SetBy, RecordSetBy}
@@ -81,6 +84,7 @@ use Rattle.trialrun.specs.TrialRuns.{trialStart, trialRun, runCallChecks, runCa
 use Rattle.trialbalance.specs.TrialBalance.{trialBalanced, trialBalancedRun, trialBalancedAnswer, runBalanced}
 use Rattle.trialadjustment.specs.TrialFigures.{rejectedOf, trialFigures, trialFiguresAnswer}
 use Rattle.trialadjustment.proofs.Trials as trialfigures
+use Rattle.trialrun.specs.Bars.{Remaining}
 use Rattle.trialrun.proofs.Aside as asides
 use Rattle.trialrun.proofs.Bars as trialbars
 use Rattle.trialrun.proofs.Without as without
@@ -496,18 +500,32 @@ tables-tested = told.table-tested
 -- ==== Which offer set the bar (document 02, §5) ====
 
 -- the record of an accepted step tells who set its critical value. `SetBy` says what that is, as facts that are checked without looking for them: a set that the step
--- looked at gives the critical value, and none before it does; over it the row's k-max equals that value, and no lower row's does; the offer is in the set, its value
--- in that row equals it, and no lower one of the set has that (runs/specs/SetBy.antt)
+-- looked at gives the critical value, those before it a smaller one, and none a larger one; over it the row's k-max equals that value, and no lower row's does; the offer
+-- is in the set, its value in that row equals it, and no lower one of the set has that (runs/specs/SetBy.antt)
 pub step-bar : (t : List Float) (r : Run) (places : ℕ) → stepRefusal t r places ≡ 0
     → SetBy (r .k) (allowance (r .rows) (r .a) (r .b)) (rowsOf (r .rows) (r .columns) t) (stepSets (r .k) (liveSet (stateOf r)) (rejectedSet (stateOf r)) (r .steps)) (stepRecord t r)
 step-bar = bars.step-set-by
 
--- the sets that a step looks at, in the order of the walk: in step 1 the live columns, and later those left with each choice of k - 1 rejected ones, lower ones first
+-- the sets that a step looks at, in the order of the walk: in step 1 the live columns, and later those left with each choice of k - 1 rejected ones
 pub sets-looked-at : (k : ℕ) (live R : Columns) (s : ℕ) → (stepSets k live R 0 ≡ live ∷ []) × (stepSets k live R (suc s) ≡ map (λ I. (live ∖ R) ∪ I) (choose (k - 1) R))
 unfolding stepSets
 sets-looked-at k live R s = (refl, refl)
 
--- so do the records of the full run of an accepted table, balanced or not
+-- of the choices, those with the lowest column of R come before those without it
+pub choices : (j : ℕ) (R : Columns) → (choose 0 R ≡ map (λ _. false) R ∷ [])
+    × (choose (suc j) (true ∷ R) ≡ map (λ I. true ∷ I) (choose j R) ++ map (λ I. false ∷ I) (choose (suc j) R)) × (choose (suc j) (false ∷ R) ≡ map (λ I. false ∷ I) (choose (suc j) R))
+unfolding choose
+choices j R = (refl, refl, refl)
+
+-- the k-th largest of any row comes with its column: in the set, with that value, and no lower one of the set has it
+module _ (k : ℕ) (K : Columns) (row : List Float) (finitely : T (soundRow (length K) row)) (some : 0 < k) (wide : k ≤ size K) where
+  pub k-max-column : T (getD K (kMaxColumn k K row) false && equal (kMax k K row) (getD row (kMaxColumn k K row) nan))
+  k-max-column = of-a-row.column-has k K row finitely some wide
+
+  pub k-max-lowest : (j : ℕ) → j < kMaxColumn k K row → (getD K j false && equal (kMax k K row) (getD row j nan)) ≡ false
+  k-max-lowest = of-a-row.column-first k K row finitely some wide
+
+-- the records of the full run of an accepted table tell it too; a balanced run is that of the balanced table, which is accepted (`balanced-run`, `balanced-accepted`)
 pub table-bars : (t : List Float) (rows columns k a b observed : ℕ) → tableRefusal t rows columns k a b observed ≡ 0
     → (i : ℕ) → i < length (tableRun t rows columns k a b observed .records) → (d : Record) → RecordSetBy (rowsOf rows columns t) (tableStart rows columns k a b observed) i (getD (tableRun t rows columns k a b observed .records) i d)
 table-bars = bars.table-set-by
@@ -520,10 +538,10 @@ module _ (t : Trial) (ok : trialRefusal t ≡ 0) (i : ℕ) (d : Record) where
   pub trial-balanced-bars : i < length (trialBalancedRun t .records) → RecordSetBy (balancedRows (trialRows t)) (trialStart t) i (getD (trialBalancedRun t .records) i d)
   trial-balanced-bars h = balancing.balanced-set-by t ok i h d
 
-  pub bar-remains : i < length (trialRun t .records) → let m = getD (trialRun t .records) i d in (m .row < rowTotal t) × (0 < m .offer) × (m .offer ≤ t .shape .offers) × (untested (t .shape .design) (figuresAt t (m .offer - 1)) ≡ false)
+  pub bar-remains : i < length (trialRun t .records) → Remaining t (getD (trialRun t .records) i d)
   bar-remains h = trialbars.plain-offer t ok i h d
 
-  pub balanced-bar-remains : i < length (trialBalancedRun t .records) → let m = getD (trialBalancedRun t .records) i d in (m .row < rowTotal t) × (0 < m .offer) × (m .offer ≤ t .shape .offers) × (untested (t .shape .design) (figuresAt t (m .offer - 1)) ≡ false)
+  pub balanced-bar-remains : i < length (trialBalancedRun t .records) → Remaining t (getD (trialBalancedRun t .records) i d)
   balanced-bar-remains h = balancing.balanced-offer t ok i h d
 
 -- in both reports a step's line ends in that row and that offer's printed code

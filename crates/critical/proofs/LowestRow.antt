@@ -1,12 +1,11 @@
 -- The lowest row that has a value.
 --   no-k-max                   where no value of a row equals v, its k-max over listed columns does not
---   row-test                   the test of row g
---   rows-hit, rows-on, rows-out     a search over the rows
+--   rows-start, rows-hit, rows-on, rows-out     a search over the rows
 --   found-is                   the same among the k-max values of all rows, in the work buffer
 use Prim.Native.Nat.{ℕ, _+_, _-_, _*_, _≤_, _<_}
 use native.Mathlib.Omega.{arith}
 use mathlib.Core.Path.{_≡_, refl, sym, ap, ap₂, _∙_, subst}
-use mathlib.Core.Bool.{Bool, true, false, not, _&&_}
+use mathlib.Core.Bool.{Bool, true, false, not}
 use mathlib.Core.List.{List, [], map}
 use lib.ListN.{length, getD, take, drop, length-map}
 use lib.Dec.{T, ltb, ltb→lt}
@@ -15,10 +14,10 @@ use borrow.Author.Tests.{ltb-false}
 use Rattle.order.specs.Order.{finite, equal, withPlusZero}
 use Rattle.order.specs.Counting.{count, all}
 use Rattle.order.specs.Lists.{rowsOf, firstAt}
-use Rattle.order.proofs.Booleans.{T-false, and-left, and-right}
-use Rattle.order.proofs.Counts.{none-counted, all-le, all-both, all-map, all-getD}
+use Rattle.order.proofs.Booleans.{T-false}
+use Rattle.order.proofs.Counts.{none-counted, all-le, all-map, all-getD}
 use Rattle.order.proofs.Firsts.{first-map, first-hit, first-on, first-out}
-use Rattle.order.proofs.Keys.{equal-withPlusZero}
+use Rattle.order.proofs.Rows.{none-equal}
 use Rattle.order.proofs.Lists.{rowsOf-length}
 use Rattle.select.specs.Rank.{kthLargest, mthSmallest}
 use Rattle.select.proofs.Ranks.{kthLargest-holds}
@@ -44,9 +43,7 @@ no-k-max row list k v f fs listed pos few none =
     off false t u = t
 
     apart : T (all (λ x. not (equal v (withPlusZero x))) row)
-    apart = all-le (λ x. finite x && not (equal v x)) (λ x. not (equal v (withPlusZero x))) row
-        (λ x t. subst (λ (b : Bool). T (not b)) (sym (equal-withPlusZero v x f (and-left (finite x) (not (equal v x)) t))) (and-right (finite x) (not (equal v x)) t))
-        (all-both finite (λ x. not (equal v x)) row fs (none-counted (λ x. equal v x) row (let h = ltb-false 0 (count (λ x. equal v x) row) none in omega (arith, h))))
+    apart = none-equal (λ x. x) finite row v f fs (λ x t. t) (none-counted (λ x. equal v x) row (let h = ltb-false 0 (count (λ x. equal v x) row) none in omega (arith, h)))
 
     others : T (all (λ x. not (equal v (withPlusZero x))) (map (λ j. getD row j nan) list))
     others = subst (λ (b : Bool). T b) (sym (all-map (λ j. getD row j nan) (λ x. not (equal v (withPlusZero x))) list))

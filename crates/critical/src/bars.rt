@@ -44,7 +44,7 @@ fn row_with(table: &[f64], f: Figures, set: u32, list: &[usize], v: f64) -> usiz
     g
 }
 
-// The same of a set.
+// The same; the columns of the set are listed here.
 pub fn lowest_row(table: &[f64], f: Figures, set: u32, v: f64) -> usize
     requires { ⌜ T (finite v) × CheckedTable (now table) (f .rows) (f .columns) (f .k) × (f .k ≤ size (columnsOf (f .columns) set)) ⌝ }
     ensures { λ r. ⌜ r ≡ barRow (f .k) (rowsOf (f .rows) (f .columns) (now (table .entry))) (columnsOf (f .columns) set) v ⌝ }

@@ -1,7 +1,8 @@
 -- One step from a state that can be stepped, by masks.
 --   in-progress             what such a state is known to be
 --   bar-start, bar-next     the critical value of step 1, and of a later step, with its set and row
---   row-there, column-room, column-fits, record-is     the row and the column that set it, and the record
+--   ready                   what holds before the step
+--   row-there, column-fits, record-is     the row and the column that set it, and the record
 --   walk-start, walk-held   what holds where the put-back walk begins
 --   new-fits, step-is       the state after the step, and its record
 --   stops-..                whether the step ends the run
@@ -104,7 +105,7 @@ module _ (t : List Float) (r : State) (g : CanStep t r) where
     pub row-there : c .row < r .rows
     row-there = omega (arith, row-is, row-below X r ready, tall)
 
-    pub column-room : (row : List Float) → row ≡ getD X (c .row) [] → length row ≡ r .columns
+    column-room : (row : List Float) → row ≡ getD X (c .row) [] → length row ≡ r .columns
     column-room row w = ap length (w ∙ ap (λ (i : ℕ). getD X i []) row-is) ∙ sound-length (r .columns) (getD X (barRowOf X r) []) (row-sound X r ready)
 
     column-is : (row : List Float) → row ≡ getD X (c .row) [] → lowest (columnsOf (length row) (c .set) ∩ equalTo (c .value) row) ≡ kMaxColumn (r .k) (barSetOf X r) (getD X (barRowOf X r) [])

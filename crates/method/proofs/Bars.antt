@@ -1,7 +1,8 @@
 -- Which column set a critical value.
+--   value-there      what is selected of some values is one of them, up to the sign of zero; kMax-finite, put-plain: it is finite, and without a minus sign on zero
 --   column-there, column-has, column-first     some column of K has a row's k-max: the one that is told has it, and no lower one
 --   row-there, row-equal, row-first            some row's k-max over K is c(K): that of the row that is told is, and of no lower one; row-value: it is c(K) itself
---   set-placed, set-equal, set-before, set-holds     of some sets one of which has c, the one that is told has it, and none before it; set-value: c itself
+--   setPlace, set-placed, set-equal, set-before      of some sets one of which has c, the one that is told has it, and none before it; set-value: c itself
 --   alone-there, alone-set, put-there, put-most     of one set, and of the sets with k - 1 columns put back, one has the critical value, and none a larger one
 use Prim.Native.Nat.{ℕ, _-_, _≤_, _<_}
 use native.Mathlib.Omega.{arith}
@@ -14,16 +15,16 @@ use lib.Dec.{T, leb}
 use borrow.Author.Tests.{le-leb}
 use lib.Ieee.{Float, nan}
 use Rattle.order.specs.Order.{finite, atMost, equal, withPlusZero}
-use Rattle.order.specs.Counting.{count, all}
+use Rattle.order.specs.Counting.{all}
 use Rattle.order.specs.Lists.{firstAt}
 use Rattle.order.proofs.Booleans.{and-left, and-right, true-T}
-use Rattle.order.proofs.Counts.{all-getD, all-le, all-map, all-both, all-true, count-some}
+use Rattle.order.proofs.Counts.{all-getD, all-map, all-true, count-some}
 use Rattle.order.proofs.Firsts.{first-passes, first-before, first-none}
-use Rattle.order.proofs.Keys.{key, atMost-key, zero-finite, equal-self, equal-key, equal-withPlusZero, withPlusZero-same}
-use Rattle.order.proofs.Rows.{Finite, Sound, soundRow, sound-length, sound-finite, sound-all}
+use Rattle.order.proofs.Keys.{key, atMost-key, zero-finite, equal-self, equal-key, withPlusZero-same}
+use Rattle.order.proofs.Rows.{Finite, Sound, soundRow, sound-length, sound-finite, sound-all, none-equal}
 use Rattle.select.specs.Rank.{kthLargest}
 use Rattle.select.proofs.Ranks.{kthLargest-ranks, kthLargest-holds, mthSmallest-holds}
-use Rattle.columns.specs.Columns.{Columns, size, _∪_, _∩_, within, choose, equalTo, lowest}
+use Rattle.columns.specs.Columns.{Columns, size, _∪_, _∩_, within, choose, equalTo}
 use Rattle.columns.proofs.Sets.{has, has-∩, length-∩, within-length, within-all, size-test}
 use Rattle.columns.proofs.PutBack.{choose-some}
 use Rattle.columns.proofs.Lowest.{lowest-has, lowest-first, lowest-le, lowest-some, has-equalTo}
@@ -31,23 +32,17 @@ use Rattle.method.specs.Method.{kMax, criticalValue, putBack}
 use Rattle.method.specs.Bars.{kMaxColumn, barSet, barRow}
 use Rattle.method.proofs.Critical.{tops, tops-finite, kMax-plain, criticalValue-finite, criticalValue-plain, sets-finite, putBack-keeps, putBack-reaches}
 
--- a value that equals a selected one of others with plus zero for either zero is there: some member passes
 module _ {A : Type 0} (f : A → Float) (r : A → Bool) (xs : List A) (c : Float) (good : T (finite c)) where
   -- where a fact that holds of every member's value holds of c, c is the value of some member
   pub value-there : T (all r xs) → ((x : A) → T (r x) → T (finite (f x))) → ((p : Float → Bool) → T (all (λ x. p (withPlusZero (f x))) xs) → T (p c)) → firstAt (λ x. equal c (f x)) xs < length xs
   value-there rs fin holds = go (decLt (firstAt (λ x. equal c (f x)) xs) (length xs))
     where
-      none : T (all (λ x. not (equal c (f x))) xs) → T (all (λ x. not (equal c (withPlusZero (f x)))) xs)
-      none t = all-le (λ x. r x && not (equal c (f x))) (λ x. not (equal c (withPlusZero (f x)))) xs
-          (λ x b. subst (λ (d : Bool). T (not d)) (sym (equal-withPlusZero c (f x) good (fin x (and-left (r x) (not (equal c (f x))) b)))) (and-right (r x) (not (equal c (f x))) b))
-          (all-both r (λ x. not (equal c (f x))) xs rs t)
-
       go : Dec (firstAt (λ x. equal c (f x)) xs < length xs) → firstAt (λ x. equal c (f x)) xs < length xs
       go (yes h) = h
-      go (no g) = absurd (subst (λ (b : Bool). T (not b)) (equal-self c good) (holds (λ x. not (equal c x)) (none (first-none (λ x. equal c (f x)) xs g))))
+      go (no g) = absurd (subst (λ (b : Bool). T (not b)) (equal-self c good) (holds (λ x. not (equal c x)) (none-equal f r xs c good rs fin (first-none (λ x. equal c (f x)) xs g))))
 
 -- equal values without a minus sign on zero are the same
-pub equal-same : (x y : Float) → T (finite x) → T (finite y) → withPlusZero x ≡ x → withPlusZero y ≡ y → T (equal x y) → x ≡ y
+equal-same : (x y : Float) → T (finite x) → T (finite y) → withPlusZero x ≡ x → withPlusZero y ≡ y → T (equal x y) → x ≡ y
 equal-same x y p q a b t = sym a ∙ withPlusZero-same x y p q (equal-key x y p q t) ∙ b
 
 -- ---- the column of a row's k-max
@@ -137,9 +132,6 @@ module _ (k e : ℕ) (X : List (List Float)) (Ks : List Columns) (c : Float) whe
   module _ (there : firstAt (λ K. equal c (criticalValue k e X K)) Ks < length Ks) where
     pub set-equal : T (equal c (criticalValue k e X (barSet k e X Ks c)))
     set-equal = rw set-placed (first-passes (λ K. equal c (criticalValue k e X K)) Ks [] there)
-
-    pub set-holds : (p : Columns → Bool) → T (all p Ks) → T (p (barSet k e X Ks c))
-    set-holds p t = rw set-placed (all-getD p Ks setPlace [] there t)
 
     pub set-value : (n : ℕ) → Sound n X → T (finite c) → withPlusZero c ≡ c → criticalValue k e X (barSet k e X Ks c) ≡ c
     set-value n s f q =

@@ -1,13 +1,19 @@
 -- Laws of counting.
 use Prim.Native.Nat.{ℕ, zero, suc, _+_, _≤_, _<_}
 use native.Mathlib.Omega.{arith}
-use mathlib.Core.Path.{_≡_, refl, ap, ap₂}
+use mathlib.Core.Path.{_≡_, refl, ap, ap₂, _∙_}
 use mathlib.Core.Bool.{Bool, true, false, not, _&&_}
 use mathlib.Core.List.{List, [], _∷_, _++_, map}
 use lib.ListN.{length, getD}
-use lib.Dec.{T}
+use lib.Dec.{T, eqb, eqb→eq}
+use borrow.Author.Tests.{eq-eqb, ne-eqb}
 use Rattle.order.specs.Counting.{bit, count, countBelow, all}
-use Rattle.order.proofs.Booleans.{and-left, and-right, and-both, not-below}
+use Rattle.order.proofs.Booleans.{same-test, true-T, and-left, and-right, and-both, not-below}
+
+-- ---- numbers
+
+one-more : (a b : ℕ) → eqb (1 + a) (suc b) ≡ eqb a b
+one-more a b = same-test (eqb (1 + a) (suc b)) (eqb a b) (λ t. true-T (eqb a b) (eq-eqb a b (omega (arith, eqb→eq (1 + a) (suc b) t)))) (λ t. true-T (eqb (1 + a) (suc b)) (eq-eqb (1 + a) (suc b) (omega (arith, eqb→eq a b t))))
 
 -- ---- bits
 
@@ -121,6 +127,19 @@ module _ {A : Type 0} where
 
   pub count-length : (p : A → Bool) (l : List A) → count p l ≤ length l
   count-length p l = omega (arith, count-not p l)
+
+  -- all pass where as many are counted as there are
+  full-count : (p : A → Bool) (l : List A) → eqb (count p l) (length l) ≡ all p l
+  unfolding count all
+  full-count p [] = refl
+  full-count p (x ∷ l) = go (p x) (full-count p l)
+    where
+      go : (b : Bool) → eqb (count p l) (length l) ≡ all p l → eqb (bit b + count p l) (suc (length l)) ≡ (b && all p l)
+      go true ih = one-more (count p l) (length l) ∙ ih
+      go false ih = ne-eqb (0 + count p l) (suc (length l)) (λ q. omega (arith, count-length p l))
+
+  pub all-counted : (p : A → Bool) (l : List A) (n : ℕ) → n ≡ count p l → eqb n (length l) ≡ all p l
+  all-counted p l n e = ap (λ (m : ℕ). eqb m (length l)) e ∙ full-count p l
 
   -- the members that pass p are those that pass q and those that pass p but not q
   pub count-both : (p q r : A → Bool) (l : List A) → ((x : A) → bit (p x) ≡ bit (q x) + bit (r x)) → count p l ≡ count q l + count r l

@@ -2,7 +2,7 @@
 --   key x            the number x in units of the smallest positive value, shifted so that it is never negative
 --   mag, signed      a magnitude in these units, and so many above or below zero's key; mag-lt, zero-mag, no-mag: its bound, and zero's
 --   smaller-key      x is smaller than y exactly where its key is
---   atMost-key       the same of at most; equal-is, equal-key: equal numbers have one key, and only those
+--   atMost-key       the same of at most; equal-is, equal-key: equal numbers have one key, and only those; equal-self, equal-withPlusZero: each equals itself, and with plus zero for either zero
 --   withPlusZero-same    finite values with one key differ at most in the sign of zero
 use Prim.Native.Nat.{ℕ, zero, suc, _+_, _-_, _*_, _/_, _^_, _≤_, _<_, _%_}
 use native.Mathlib.Omega.{arith}

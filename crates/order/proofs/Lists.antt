@@ -1,5 +1,5 @@
 -- Laws of lists in tables and arrays.
---   getD-map            a member of a mapped list
+--   getD-map            a member of a mapped list; both-same: two lists are the same whose members are
 --   tabulate-..         the members of a tabulated list; all-tabulate: what holds of each holds of all
 --   all-take, all-drop  what holds of all members holds of some
 --   part-rows, rowsOf-..     the rows of a list: how many, how long, which, what their members pass
@@ -34,6 +34,10 @@ map-more g [] x = refl
 map-more g (y ∷ l) x = ap (λ m. g y ∷ m) (map-more g l x)
 
 module _ {A : Type 0} where
+  -- two lists, member by member
+  pub both-same : {a b : A} {xs ys : List A} → a ≡ b → xs ≡ ys → (a ∷ xs) ≡ (b ∷ ys)
+  both-same p q = ap₂ (λ (a : A) (xs : List A). a ∷ xs) p q
+
   -- ---- tabulated lists
 
   pub tabulate-length : (n : ℕ) (f : ℕ → A) → length (tabulate n f) ≡ n

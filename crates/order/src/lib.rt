@@ -1,4 +1,4 @@
-// The order of f64 values: which are finite, plus zero for either zero, and their places in the 64-bit order.
+// The order of f64 values: which are finite, plus zero for either zero, which are equal, and their places in the 64-bit order.
 // The definitions are in specs/, their laws in proofs/.
 mod bits; // the 64-bit order
 mod equals; // a value looked for among others
@@ -28,20 +28,20 @@ pub fn is_finite(x: f64) -> bool
     false
 }
 
-// Whether every value of a slice is finite.
+// Whether every value of a slice is finite. All are looked at, so that the loop takes several at a time.
 pub fn all_finite(xs: &[f64]) -> bool
     ensures { λ r. ⌜ r ≡ all finite (now (xs .entry)) ⌝ }
 {
+    let mut n: usize = 0;
     let mut i: usize = 0;
     while i < xs.len() {
         let x = xs[i];
         if is_finite(x) {
-            i += 1;
-        } else {
-            return false;
+            n += 1;
         }
+        i += 1;
     }
-    true
+    n == xs.len()
 }
 
 // x, and plus zero for either zero.

@@ -1,4 +1,4 @@
-// Two values compared, each function in a form that the compiler makes one instruction without a branch.
+// Two values compared, each function in a form that the compiler makes an instruction or two of, without a branch.
 ghost use mathlib.Core.Path.{_≡_};
 ghost use Rattle.order.specs.Order.{atMost, equal, larger, lesser};
 ghost use Rattle.order.specs.Counting.{bit};

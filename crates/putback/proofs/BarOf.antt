@@ -25,6 +25,7 @@ use Rattle.columns.proofs.Masks.{columnsOf-maskOf, maskOf-columnsOf}
 use Rattle.columns.proofs.PutBack.{choose-some}
 use Rattle.method.specs.Method.{criticalValue, putBack}
 use Rattle.method.specs.Bars.{barSet, barRow}
+use Rattle.method.proofs.Critical.{criticalValue-plain}
 use Rattle.method.proofs.Bars.{alone-set}
 use Rattle.masks.specs.Internal.{CheckedTable}
 use Rattle.critical.specs.Internal.{foundOf}
@@ -35,7 +36,7 @@ use Rattle.putback.specs.declared.branch.Branch.{Branch}
 use Rattle.putback.specs.declared.walk.Best.{Best}
 use Rattle.putback.proofs.Better.{better-value}
 use Rattle.putback.proofs.Branches.{sets-each, sets-all, sets-leaf}
-use Rattle.putback.proofs.PutBackValue.{values-finite, values-plain, best-member, lowest-under, put-back-value, one-value, one-left}
+use Rattle.putback.proofs.PutBackValue.{values-finite, best-member, lowest-under, put-back-value, one-value, one-left}
 use Rattle.putback.proofs.FirstBest.{keyPlace, better-first, first-there, same-start}
 
 -- there is a set where nothing is put back, and where k - 1 columns can be
@@ -56,7 +57,7 @@ module _ {t : List Float} {rows cols k : ℕ} (e : ℕ) (r : CheckedTable t rows
   pub risen-best : (b : Branch) (v : Float) (x : Best) → T (low v) → smaller v (x .value) ≡ true → x ≡ better (λ K. criticalValue k e (rowsOf rows cols t) K) (record { value = v; set = b .set }) (setsOf cols b)
       → x ≡ better (λ K. criticalValue k e (rowsOf rows cols t) K) (record { value = inf true; set = b .set }) (setsOf cols b)
   risen-best b v x l up q =
-      q ∙ same-start (λ K. criticalValue k e X K) (values-finite cols k e X sound) (values-plain cols k e X sound) v (b .set) (setsOf cols b) l (subst (λ (y : Best). smaller v (y .value) ≡ true) q up)
+      q ∙ same-start (λ K. criticalValue k e X K) (values-finite cols k e X sound) (λ K. criticalValue-plain k e X K) v (b .set) (setsOf cols b) l (subst (λ (y : Best). smaller v (y .value) ≡ true) q up)
 
   pub alone-bar : (set : ℕ) (c : Found) → set < 2 ^ cols → c ≡ foundOf k e (rowsOf rows cols t) (columnsOf cols set)
       → record { value = c .value; set = set; row = c .row } ≡ barOf k e (rowsOf rows cols t) (columnsOf cols set ∷ []) (criticalValue k e (rowsOf rows cols t) (columnsOf cols set))

@@ -1,8 +1,7 @@
 -- The set that is held is the first that gives the best value, whatever the walk started from below it.
---   better-at        where no set has a larger key than m and some set has it, the first such set is held
---   better-first     where the best value is above that of the start, it is given by the first set that has its key
+--   keyPlace m Ks    the place of the first set whose value has the key m
+--   better-first, first-there     where the best value is above that of the start, it is given by the first set that has its key, and there is one
 --   same-start       then the start makes no difference
---   bar-held         the first set that gives the largest value, with that value: its mask, and what holds of it
 use Prim.Native.Nat.{ℕ, suc, _≤_, _<_}
 use native.Mathlib.Omega.{arith}
 use mathlib.Core.Path.{_≡_, refl, sym, ap, _∙_, subst}
@@ -44,7 +43,7 @@ module _ (f : Columns → Float) (fin : (K : Columns) → T (finite (f K))) wher
   better-at : (m : ℕ) (b : Best) (Ks : List Columns) → T (low (b .value)) → key (b .value) < m → T (all (λ K. leb (key (f K)) m) Ks) → keyPlace m Ks < length Ks → better f b Ks ≡ given (getD Ks (keyPlace m Ks) [])
   unfolding better firstAt all
   better-at m b [] l h t i = absurd (omega arith)
-  better-at m b (K ∷ Ks) l h t i = go (eqb m (key (f K))) refl (λ b′ l′ h′ i′. better-at m b′ Ks l′ h′ (and-right (leb (key (f K)) m) (all (λ K. leb (key (f K)) m) Ks) t) i′) i
+  better-at m b (K ∷ Ks) l h t i = go (eqb m (key (f K))) refl (λ b′ l′ h′ i′. better-at m b′ Ks l′ h′ most i′) i
     where
       most : T (all (λ K. leb (key (f K)) m) Ks)
       most = and-right (leb (key (f K)) m) (all (λ K. leb (key (f K)) m) Ks) t
@@ -96,8 +95,8 @@ module _ (f : Columns → Float) (fin : (K : Columns) → T (finite (f K))) wher
     abbrev m : ℕ
     m = key (better f b Ks .value)
 
-    there : keyPlace (key (better f b Ks .value)) Ks < length Ks
-    there = go (reached b Ks)
+    pub first-there : keyPlace (key (better f b Ks .value)) Ks < length Ks
+    first-there = go (reached b Ks)
       where
         go : (key (better f b Ks .value) ≡ key (b .value)) ⊎ (keyPlace (key (better f b Ks .value)) Ks < length Ks) → keyPlace (key (better f b Ks .value)) Ks < length Ks
         go (inl q) = absurd (omega arith)
@@ -109,10 +108,7 @@ module _ (f : Columns → Float) (fin : (K : Columns) → T (finite (f K))) wher
         (sym (count-map f (λ x. ltb m (key x)) Ks) ∙ ap (λ (v : Float). count (λ x. ltb (key v) (key x)) (map f Ks)) (better-value f b Ks) ∙ best-least (b .value) (map f Ks) l (all-finite f fin Ks) .1))
 
     pub better-first : better f b Ks ≡ given (getD Ks (keyPlace (key (better f b Ks .value)) Ks) [])
-    better-first = better-at m b Ks l rises most there
-
-    pub first-there : keyPlace (key (better f b Ks .value)) Ks < length Ks
-    first-there = there
+    better-first = better-at m b Ks l rises most first-there
 
   -- from a start below the best value, and from minus infinity
   pub same-start : ((K : Columns) → withPlusZero (f K) ≡ f K) → (v : Float) (s : ℕ) (Ks : List Columns) → T (low v) → smaller v (better f (record { value = v; set = s }) Ks .value) ≡ true

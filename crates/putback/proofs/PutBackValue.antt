@@ -1,4 +1,6 @@
 -- The largest of critical values, met one by one.
+--   best-least, best-holds, best-member     no member is above the best; what holds of the start and of all members holds of it; above the start it is a member
+--   all-finite, lowest-under     values that are finite, and above minus infinity
 --   same-best         from any bound that it is above, and from minus infinity
 --   put-back-value    the put-back critical value; one-value, one-left: of one set
 use Prim.Native.Nat.{ℕ, zero, suc, _+_, _-_, _≤_, _<_}
@@ -157,9 +159,6 @@ module _ (n k e : ℕ) (X : List (List Float)) (sound : Sound n X) where
   pub values-finite : (K : Columns) → T (finite (criticalValue k e X K))
   values-finite K = criticalValue-finite n k e X K sound
 
-  pub values-plain : (K : Columns) → withPlusZero (criticalValue k e X K) ≡ criticalValue k e X K
-  values-plain K = criticalValue-plain k e X K
-
 -- ---- a checked table
 
 module _ {t : List Float} {rows cols k : ℕ} (e : ℕ) (r : CheckedTable t rows cols k) where
@@ -173,7 +172,7 @@ module _ {t : List Float} {rows cols k : ℕ} (e : ℕ) (r : CheckedTable t rows
   put-back-value remaining rejected some q =
       q ∙ ap (λ (Ks : List Columns). bestOf (inf true) (map (λ K. criticalValue k e X K) Ks)) (sets-all cols remaining rejected (k - 1))
       ∙ ap (bestOf (inf true)) (map-map (λ K. criticalValue k e X K) (λ I. columnsOf cols remaining ∪ I) (choose (k - 1) (columnsOf cols rejected)))
-      ∙ largest-is (λ I. criticalValue k e X (columnsOf cols remaining ∪ I)) (λ I. values-finite cols k e X sound (columnsOf cols remaining ∪ I)) (λ I. values-plain cols k e X sound (columnsOf cols remaining ∪ I)) (choose (k - 1) (columnsOf cols rejected))
+      ∙ largest-is (λ I. criticalValue k e X (columnsOf cols remaining ∪ I)) (λ I. values-finite cols k e X sound (columnsOf cols remaining ∪ I)) (λ I. criticalValue-plain k e X (columnsOf cols remaining ∪ I)) (choose (k - 1) (columnsOf cols rejected))
       (omega (arith, length-map (choose (k - 1) (columnsOf cols rejected)) (λ I. criticalValue k e X (columnsOf cols remaining ∪ I)), choose-some (k - 1) (columnsOf cols rejected) some))
     where
       X : List (List Float)

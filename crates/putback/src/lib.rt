@@ -28,7 +28,7 @@ pub struct Bar {
     pub row: usize,
 }
 
-// That of one set, with k = 1.
+// That of one set; it is called with k = 1.
 fn alone(table: &[f64], work: &mut [f64], f: Figures, set: u32) -> Bar
     requires { ⌜ CheckedTable (now table) (f .rows) (f .columns) (f .k) × (f .rows ≤ length (now work)) × (f .k ≤ size (columnsOf (f .columns) set)) × (f .e < f .rows) × (set < 2 ^ f .columns) ⌝ }
     ensures { λ r. ⌜ (r ≡ barOf (f .k) (f .e) (rowsOf (f .rows) (f .columns) (now (table .entry))) (columnsOf (f .columns) set ∷ []) (criticalValue (f .k) (f .e) (rowsOf (f .rows) (f .columns) (now (table .entry))) (columnsOf (f .columns) set))) × (drop (f .rows) (now (work .exit)) ≡ drop (f .rows) (now (work .entry))) ⌝ }
@@ -41,7 +41,7 @@ fn alone(table: &[f64], work: &mut [f64], f: Figures, set: u32) -> Bar
     }
 }
 
-// That of the sets of a branch, of which there is one: the row is looked for once, when the value is known.
+// That of the sets of a branch, one or more: the row is looked for once, when the value is known.
 fn of_branch(
     table: &[f64],
     work: &mut [f64],

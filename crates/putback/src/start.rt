@@ -37,7 +37,7 @@ fn first_set(columns: usize, k: usize, b: Branch) -> u32
     at.set
 }
 
-// The best of `value` and the critical values of the branch's sets, and the set that gave it first.
+// The best of `value` and the critical values of the branch's sets, and the set that gave it first; `b.set` where none is larger.
 fn climb(
     table: &[f64],
     work: &mut [f64],

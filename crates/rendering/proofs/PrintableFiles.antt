@@ -116,7 +116,7 @@ pub plain-printable : PrintableRun trialRun
 unfolding trialRun
 plain-printable t h =
     let acc = accepted t h in
-    run-printable (trialRows t) (trialStart t) (rows-whole t acc) (t .shape .offers) (λ i l d. let o = trial-offer t acc (trialRows t) (trialRows-sound t acc) (trialRows-length t) i l d in (o .1, o .2))
+    run-printable (trialRows t) (trialStart t) (rows-whole t acc) (t .shape .offers) (λ i l d. let o = trial-offer t acc (trialRows t) (trialRows-sound t acc) (trialRows-length t) i l d in (o .offer-some, o .offer-most))
 
 pub balanced-printable : PrintableRun trialBalancedRun
 unfolding trialBalancedRun
@@ -124,7 +124,7 @@ balanced-printable t h =
     let acc = accepted t h in
     run-printable (balancedRows (trialRows t)) (trialStart t)
     (balanced-all (trialRows t) wholeCents (λ m l. ofInt-whole (pos m) (omega (arith, trialRows-length t, rows-few t acc)))) (t .shape .offers)
-    (λ i l d. let o = trial-offer t acc (balancedRows (trialRows t)) (balanced-sound (t .shape .offers) (trialRows t) (trialRows-sound t acc) (omega (arith, trialRows-length t, rows-few t acc))) (balancedRows-length (trialRows t) ∙ trialRows-length t) i l d in (o .1, o .2))
+    (λ i l d. let o = trial-offer t acc (balancedRows (trialRows t)) (balanced-sound (t .shape .offers) (trialRows t) (trialRows-sound t acc) (omega (arith, trialRows-length t, rows-few t acc))) (balancedRows-length (trialRows t) ∙ trialRows-length t) i l d in (o .offer-some, o .offer-most))
 
 -- the printed number is the critical value: nothing is cut off
 module _ (run : Trial → Outcome) (p : PrintableRun run) where

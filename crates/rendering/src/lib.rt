@@ -1,4 +1,4 @@
-// The report of a trial file, as text (document 01, "Report and C call"), and the balanced one (document 02, §3). The definitions are in specs/, their laws in proofs/.
+// The report of a trial file, as text (document 01, "Report and C call"), and the balanced one (document 02, §3); step lines tell who set the bar (§5). The definitions are in specs/, their laws in proofs/.
 mod lines; // the lines of a report
 
 use limits::LONGEST_REPORT;

@@ -1,9 +1,9 @@
 -- Who set the critical value of a step (document 02, §5).
 --   Ready X r        what holds before each step: k or more columns are live, and some are left
 --   ready-first, ready-next     before step 1, and where a step has not ended the run
---   bar-inside, bar-wide, bar-gives     the set that is told: of live columns, k of them or more, and its critical value is that of the step
---   row-below, row-gives     the row that is told: it is a row, and its k-max is the critical value
---   offer-told       the offer that is told, from 1: a live column
+--   bar-inside, bar-wide, bar-length, bar-gives     the set that is told: of live columns, k of them or more, and its critical value is that of the step
+--   row-below, row-sound, row-gives     the row that is told: it is a row, and its k-max is the critical value
+--   offer-told, offer-most     the offer that is told, from 1: a live column
 --   set-by           a step's record tells who set its critical value
 --   record-set-by, record-offer     so does each record of a full run; its offer is a live column
 use Prim.Native.Nat.{ℕ, zero, suc, _+_, _-_, _≤_, _<_}
@@ -262,14 +262,17 @@ module _ (X : List (List Float)) where
     kept = after-kept X i s
 
     pub record-set-by : (d : Record) → RecordSetBy X s i (getD (fullRun X s .records) i d)
+    unfolding recordOf
     record-set-by d =
         let r = after i X s in
         let z : r .steps ≡ i = omega (arith, kept .steps-on, fresh) in
-        subst (λ (m : Record). RecordSetBy X s i m) (sym (record-told d))
-        (subst (λ (n : ℕ). SetBy (s .k) (s .e) X (stepSets (s .k) (liveSet s) (rejectedSet r) n) (recordOf X r)) z
-        (subst (λ (K : Columns). SetBy (s .k) (s .e) X (stepSets (s .k) K (rejectedSet r) (r .steps)) (recordOf X r)) (kept .live-same)
-        (subst (λ (n : ℕ). SetBy (s .k) n X (stepSets (s .k) (liveSet r) (rejectedSet r) (r .steps)) (recordOf X r)) (kept .e-same)
-        (subst (λ (n : ℕ). SetBy n (r .e) X (stepSets n (liveSet r) (rejectedSet r) (r .steps)) (recordOf X r)) (kept .k-same) (set-by X r (told-at .0))))))
+        subst (λ (m : Record). RecordSetBy X s i m) (sym (record-told d)) (
+          ap (λ (n : ℕ). n + 1) z,
+          subst (λ (n : ℕ). SetBy (s .k) (s .e) X (stepSets (s .k) (liveSet s) (rejectedSet r) n) (recordOf X r)) z
+              (subst (λ (K : Columns). SetBy (s .k) (s .e) X (stepSets (s .k) K (rejectedSet r) (r .steps)) (recordOf X r)) (kept .live-same)
+              (subst (λ (n : ℕ). SetBy (s .k) n X (stepSets (s .k) (liveSet r) (rejectedSet r) (r .steps)) (recordOf X r)) (kept .e-same)
+              (subst (λ (n : ℕ). SetBy n (r .e) X (stepSets n (liveSet r) (rejectedSet r) (r .steps)) (recordOf X r)) (kept .k-same) (set-by X r (told-at .0))))),
+        )
 
     -- its offer is one of the columns, and live; its row is one of the rows
     pub record-offer : (d : Record) → let m = getD (fullRun X s .records) i d in (m .row < length X) × (0 < m .offer) × (m .offer ≤ s .columns) × T (has (liveSet s) (m .offer - 1))

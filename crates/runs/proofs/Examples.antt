@@ -1,12 +1,13 @@
 -- The starred examples of document 01 hold, all of them, and those of document 02, §5: the checker computes what is asked, one example after the other.
-use mathlib.Core.Path.{_≡_, refl, ap₂}
+use mathlib.Core.Path.{_≡_, refl}
 use mathlib.Core.List.{List, [], _∷_, map}
 use lib.Ieee.{lt, le, ofInt}
+use Rattle.order.proofs.Lists.{both-same}
 use Rattle.runs.specs.Examples.{⁺, ⁻, W, P, Answer, examples, bars}
 
 infixr 5 _also_
 _also_ : {a b : Answer} {xs ys : List Answer} → a ≡ b → xs ≡ ys → (a ∷ xs) ≡ (b ∷ ys)
-p also q = ap₂ (λ (a : Answer) (xs : List Answer). a ∷ xs) p q
+_also_ = both-same
 
 done : _≡_ {A = List Answer} [] []
 done = refl

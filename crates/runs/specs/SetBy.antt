@@ -1,10 +1,10 @@
 -- Who set a critical value, as facts that are checked without looking for it (document 02, §5). Definitions only.
---   SetBy k e X Ks m     what a record tells is true of the sets Ks that its step looked at, in their order: a set of them gives the critical value, and none before it
---                        does; over that set the row's k-max equals it, and no lower row's does; the offer, counted from 1, is in the set, its value in that row equals it,
+--   SetBy k e X Ks m     what a record tells is true of the sets Ks that its step looked at, in their order: a set of them gives the critical value, those before it
+--                        a smaller one, and none a larger one; over that set the row's k-max equals it, and no lower row's does; the offer, counted from 1, is in the set, its value in that row equals it,
 --                        and no lower one of the set has that
 --   after n X s          the state after n steps from s
 --   RecordSetBy X s i m  that of the record m of step i + 1 of the run that begins with s: the columns rejected till then are those of the state after i steps
-use Prim.Native.Nat.{ℕ, zero, suc, _-_, _<_}
+use Prim.Native.Nat.{ℕ, zero, suc, _+_, _-_, _<_}
 use mathlib.Core.Path.{_≡_}
 use mathlib.Core.Bool.{false}
 use mathlib.Core.List.{List, []}
@@ -40,4 +40,4 @@ after zero X s = s
 after (suc n) X s = after n X (next X s)
 
 abbrev pub RecordSetBy : List (List Float) → State → ℕ → Record → Type 0
-RecordSetBy X s i m = SetBy (s .k) (s .e) X (stepSets (s .k) (liveSet s) (rejectedSet (after i X s)) i) m
+RecordSetBy X s i m = (m .step ≡ i + 1) × SetBy (s .k) (s .e) X (stepSets (s .k) (liveSet s) (rejectedSet (after i X s)) i) m

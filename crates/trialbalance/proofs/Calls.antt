@@ -9,10 +9,9 @@
 --   trial-counts                   its counts are those of the plain run
 --   balanced-without               it is the balanced full run of the table of the offers that remain
 --   balanced-set-by, balanced-offer     who set its critical values
-use Prim.Native.Nat.{ℕ, _*_, _-_, _^_, _≤_, _<_}
+use Prim.Native.Nat.{ℕ, _*_, _^_, _≤_, _<_}
 use native.Mathlib.Omega.{arith}
 use mathlib.Core.Path.{_≡_, sym, ap, ap₂, _∙_, subst}
-use mathlib.Core.Bool.{false}
 use mathlib.Core.List.{List, _++_}
 use lib.ListN.{length, getD, take, drop, length-append}
 use lib.Seq.{take-at, drop-at}
@@ -35,8 +34,7 @@ use Rattle.tablebalance.specs.Answers.{balancedRun}
 use Rattle.tablebalance.proofs.Accepted.{accepted-balanced}
 use Rattle.tablebalance.proofs.Counted.{run-counts, balancedRun-rows}
 use Rattle.trial.specs.Aside.{liveOffers, liveMask}
-use Rattle.trial.specs.Designs.{untested}
-use Rattle.trial.specs.Exchange.{figuresAt, rowTotal, trialRows, tableOf}
+use Rattle.trial.specs.Exchange.{rowTotal, trialRows, tableOf}
 use Rattle.trial.specs.declared.Trial.{Trial}
 use Rattle.trial.specs.declared.TableSize.{TableSize}
 use Rattle.trial.specs.Refusals.{trialRefusal}
@@ -46,6 +44,7 @@ use Rattle.trial.proofs.Tables.{trialRows-length, trialRows-sound, tableOf-leng
 use Rattle.trialrun.specs.TrialRuns.{trialStart, trialRun, runSize, runTable}
 use Rattle.trialrun.proofs.Tabled.{free, rows-are, columns-are, same-total, good, filled, front, asked}
 use Rattle.trialrun.proofs.Runs.{table-accepted, start-all}
+use Rattle.trialrun.specs.Bars.{Remaining}
 use Rattle.trialrun.proofs.Bars.{trial-set-by, trial-offer}
 use Rattle.trialrun.proofs.Without.{Without, run-without, remainingTable, remaining-rows, remaining-length}
 use Rattle.trialbalance.specs.TrialBalance.{trialBalanced, trialBalancedRun, runBalanced}
@@ -152,6 +151,6 @@ module _ (t : Trial) where
       unfolding trialBalancedRun
       balanced-set-by = trial-set-by t acc (balancedRows (trialRows t)) ranked-sound ranked-length i h d
 
-      pub balanced-offer : let m = getD (trialBalancedRun t .records) i d in (m .row < rowTotal t) × (0 < m .offer) × (m .offer ≤ t .shape .offers) × (untested (t .shape .design) (figuresAt t (m .offer - 1)) ≡ false)
+      pub balanced-offer : Remaining t (getD (trialBalancedRun t .records) i d)
       unfolding trialBalancedRun
       balanced-offer = trial-offer t acc (balancedRows (trialRows t)) ranked-sound ranked-length i h d

@@ -3,13 +3,12 @@
 --   trial-set-by       what each record tells is true
 --   trial-offer        its row is one of the rows, and its offer one of the trial's that is not set aside
 --   plain-set-by, plain-offer     both, of the plain run
-use Prim.Native.Nat.{ℕ, _-_, _≤_, _<_}
+use Prim.Native.Nat.{ℕ, _-_, _<_}
 use native.Mathlib.Omega.{arith}
-use mathlib.Core.Path.{_≡_, refl, sym, ap, _∙_}
+use mathlib.Core.Path.{_≡_, refl, sym, _∙_}
 use mathlib.Core.Bool.{Bool, true, false, not}
 use mathlib.Core.List.{List}
 use lib.ListN.{length, getD}
-use lib.Dec.{T}
 use lib.Ieee.{Float}
 use Rattle.order.proofs.Booleans.{T-true}
 use Rattle.order.proofs.Rows.{Sound}
@@ -29,6 +28,7 @@ use Rattle.trial.proofs.Accepted.{Accepted, accepted}
 use Rattle.trial.proofs.Aside.{live-bit}
 use Rattle.trial.proofs.Tables.{trialRows-length, trialRows-sound, rowTotal-some}
 use Rattle.trialrun.specs.TrialRuns.{trialStart, trialRun}
+use Rattle.trialrun.specs.Bars.{Remaining}
 
 module _ (t : Trial) (acc : Accepted t) (X : List (List Float)) (sound : Sound (t .shape .offers) X) (tall : length X ≡ rowTotal t) where
   pub trial-ready : trialStart t .ended ≡ false → Ready X (trialStart t)
@@ -41,16 +41,16 @@ module _ (t : Trial) (acc : Accepted t) (X : List (List Float)) (sound : Sound (
     pub trial-set-by : RecordSetBy X (trialStart t) i (getD (fullRun X (trialStart t) .records) i d)
     trial-set-by = record-set-by X (trialStart t) refl trial-ready i h d
 
-    pub trial-offer : let m = getD (fullRun X (trialStart t) .records) i d in (m .row < rowTotal t) × (0 < m .offer) × (m .offer ≤ t .shape .offers) × (untested (t .shape .design) (figuresAt t (m .offer - 1)) ≡ false)
+    pub trial-offer : Remaining t (getD (fullRun X (trialStart t) .records) i d)
     trial-offer =
         let o = record-offer X (trialStart t) refl trial-ready i h d in
         let j = getD (fullRun X (trialStart t) .records) i d .offer - 1 in
-        let l : j < t .shape .offers = omega (arith, o .1, o .2) in (
-          omega (arith, o .0, tall),
-          o .1,
-          o .2,
-          off (untested (t .shape .design) (figuresAt t j)) (sym (live-bit t j l) ∙ sym (has-columnsOf (t .shape .offers) (liveMask t) j l) ∙ T-true _ (o .3)),
-        )
+        let l : j < t .shape .offers = omega (arith, o .1, o .2) in record {
+          row-below = omega (arith, o .0, tall);
+          offer-some = o .1;
+          offer-most = o .2;
+          tested = off (untested (t .shape .design) (figuresAt t j)) (sym (live-bit t j l) ∙ sym (has-columnsOf (t .shape .offers) (liveMask t) j l) ∙ T-true _ (o .3));
+        }
       where
         off : (b : Bool) → not b ≡ true → b ≡ false
         off false q = refl
@@ -63,6 +63,6 @@ module _ (t : Trial) (ok : trialRefusal t ≡ 0) (i : ℕ) (h : i < length (tria
   unfolding trialRun
   plain-set-by = let acc = accepted t ok in trial-set-by t acc (trialRows t) (trialRows-sound t acc) (trialRows-length t) i h d
 
-  pub plain-offer : let m = getD (trialRun t .records) i d in (m .row < rowTotal t) × (0 < m .offer) × (m .offer ≤ t .shape .offers) × (untested (t .shape .design) (figuresAt t (m .offer - 1)) ≡ false)
+  pub plain-offer : Remaining t (getD (trialRun t .records) i d)
   unfolding trialRun
   plain-offer = let acc = accepted t ok in trial-offer t acc (trialRows t) (trialRows-sound t acc) (trialRows-length t) i h d

@@ -1,2 +1,3 @@
 pub mod TrialRuns
 pub mod FileRuns
+pub mod Bars

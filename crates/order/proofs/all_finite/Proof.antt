@@ -1,33 +1,35 @@
--- `order::all_finite` meets its contract. The invariant: all are finite exactly where all from `i` on are.
+-- `order::all_finite` meets its contract. The invariant: what is counted and what is still to be counted make the whole.
 use borrow.Author.Needs.{needs}
+use mathlib.Core.Logic.{⊎-elim}
 use mathlib.Core.Path.{_≡_, sym, _∙_}
-use Prim.Native.Nat.{_≤_, _-_}
+use native.Mathlib.Omega.{arith}
+use Prim.Native.Nat.{_≤_, _+_, _-_}
 use lib.ListN.{length, drop}
 use lib.Ieee.{nan}
 use Rattle.order.specs.Order.{finite}
-use Rattle.order.specs.Counting.{all}
-use Rattle.order.proofs.Slices.{all-turn, all-out, all-end}
+use Rattle.order.specs.Counting.{count}
+use Rattle.order.proofs.Counts.{all-counted}
+use Rattle.order.proofs.Slices.{counted-in, counted-past, counted-all}
 use Rattle.order.proofs.all_finite.Statement.{statement}
 use Rattle.order.proofs.all_finite.Tie as tie
 
 abbrev Inv-loop : tie.InvT-loop
-Inv-loop xs i₀ i = (i ≤ length xs) × (all finite xs ≡ all finite (drop i xs))
+Inv-loop xs n₀ i₀ n i = (i ≤ length xs) × (n + count finite (drop i xs) ≡ count finite xs) × (n ≤ i)
 
 abbrev μ-loop : tie.MeasureT-loop
-μ-loop xs i₀ i = length xs - i
+μ-loop xs n₀ i₀ n i = length xs - i
 
 loop-again : tie.Need-loop-again Inv-loop μ-loop
 loop-again c =
     let t = c .before .before .before in
-    (search needs, t .before .loop .inv .1 ∙ all-turn finite _ _ nan (t .loop-test .taken) (sym (c .before .is-finite .ensures) ∙ c .if1 .taken))
+    let l = t .before .loop .inv in
+    ⊎-elim
+    (λ w. (omega arith, counted-in _ _ _ nan _ _ _ (t .loop-test .taken) (sym (c .before .is-finite .ensures) ∙ w .0 .taken) (w .1) (l .1), omega arith))
+    (λ w. (omega arith, counted-past _ _ _ nan _ _ _ (t .loop-test .taken) (sym (c .before .is-finite .ensures) ∙ w .0 .left) (w .1) (l .1), omega arith))
+    (c .if1 .came)
 
 returns : tie.Need-returns Inv-loop μ-loop
-returns c =
-    let t = c .before .before .before in
-    sym (t .before .loop .inv .1 ∙ all-out finite _ _ nan (t .loop-test .taken) (sym (c .before .is-finite .ensures) ∙ c .if1 .left))
-
-returns-2 : tie.Need-returns-2 Inv-loop μ-loop
-returns-2 c = sym (c .before .loop .inv .1 ∙ all-end finite _ _ nan (c .loop-test .left))
+returns c = all-counted finite _ _ (counted-all _ _ _ nan _ _ (c .loop-test .left) (c .before .loop .inv .1))
 
 pub all-finite-spec : {M : Type 1} → statement M
 all-finite-spec =
@@ -41,6 +43,6 @@ all-finite-spec =
     (λ c κs. search needs)
     (λ c. search needs)
     (λ c. search needs)
+    (λ c. search needs)
     loop-again
-    returns
-    returns-2)
+    returns)

@@ -1,4 +1,4 @@
--- `first_equal` meets its contract. The invariant: none before `i` equals it.
+-- `first_equal` meets its contract. The invariant: none before `i` equals it, as the blocks that are passed leave it.
 use borrow.Author.Needs.{needs}
 use mathlib.Core.Path.{_≡_, sym, _∙_}
 use native.Mathlib.Omega.{arith}
@@ -7,7 +7,7 @@ use lib.ListN.{length, drop}
 use lib.Ieee.{nan}
 use Rattle.order.specs.Order.{equal}
 use Rattle.order.specs.Lists.{firstAt}
-use Rattle.order.proofs.Firsts.{first-start, first-hit, first-on, first-out}
+use Rattle.order.proofs.Firsts.{first-hit, first-on, first-out}
 use Rattle.order.proofs.equals.first_equal.Statement.{statement}
 use Rattle.order.proofs.equals.first_equal.Tie as tie
 
@@ -18,7 +18,7 @@ abbrev μ-loop : tie.MeasureT-loop
 μ-loop xs v i₀ i = length xs - i
 
 loop-holds : tie.Need-loop-holds Inv-loop μ-loop
-loop-holds c = (omega arith, first-start _ _ nan)
+loop-holds c = c .blocks-passed .ensures
 
 returns : tie.Need-returns Inv-loop μ-loop
 returns c = let t = c .before .before .before in first-hit _ _ nan _ (t .loop-test .taken) (sym (c .before .equal .ensures) ∙ c .if1 .taken) (t .before .loop .inv .1)
@@ -35,6 +35,7 @@ first-equal-spec =
     (tie.spec
     Inv-loop
     μ-loop
+    (λ c κs. search needs)
     loop-holds
     (λ c. search needs)
     (λ c. search needs)
