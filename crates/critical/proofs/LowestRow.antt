@@ -1,6 +1,7 @@
 -- The lowest row that has a value.
 --   no-k-max                   where no value of a row equals v, its k-max over listed columns does not
 --   rows-start, rows-hit, rows-on, rows-out     a search over the rows
+--   one-checked, one-found     with k = 1, which is written out
 --   found-is                   the same among the k-max values of all rows, in the work buffer
 use Prim.Native.Nat.{ℕ, _+_, _-_, _*_, _≤_, _<_}
 use native.Mathlib.Omega.{arith}
@@ -27,6 +28,7 @@ use Rattle.method.specs.Bars.{barRow}
 use Rattle.masks.specs.Internal.{CheckedTable}
 use Rattle.refusals.specs.Buffers.{written}
 use Rattle.critical.specs.Internal.{membersFrom, foundOf}
+use Rattle.critical.specs.declared.quantile.Found.{Found}
 use Rattle.critical.proofs.Members.{listed-finite}
 use Rattle.critical.proofs.TableRows.{row-value, front-is, quantile-is}
 
@@ -82,6 +84,13 @@ module _ (t : List Float) (rows cols k set : ℕ) (v : Float) where
   rows-out g h l q = first-out (λ row. equal v (kMax k (columnsOf cols set) row)) (rowsOf rows cols t) [] g (omega (arith, rowsOf-length rows cols t)) (omega (arith, rowsOf-length rows cols t)) q
 
 -- ---- among the k-max values of all rows
+
+-- with k = 1, which is written out
+pub one-checked : {t : List Float} {rows cols k : ℕ} → CheckedTable t rows cols k → k ≡ 1 → CheckedTable t rows cols 1
+one-checked {t} {rows} {cols} r one = subst (λ (m : ℕ). CheckedTable t rows cols m) one r
+
+pub one-found : (X : List (List Float)) (k e cols set : ℕ) (c : Found) → k ≡ 1 → c ≡ foundOf 1 e X (columnsOf cols set) → c ≡ foundOf k e X (columnsOf cols set)
+one-found X k e cols set c one q = q ∙ ap (λ (m : ℕ). foundOf m e X (columnsOf cols set)) (sym one)
 
 module _ (t : List Float) (rows cols k e set : ℕ) (r : CheckedTable t rows cols k) (few : e < rows) (w w₀ : List Float)
     (p : w ≡ written (map (λ row. kMax k (columnsOf cols set) row) (rowsOf rows cols t)) w₀) where

@@ -40,15 +40,16 @@ pub struct Found {
     pub row: usize,
 }
 
-// The critical value of the columns of `set`; of the work buffer only the first M places change.
+// The critical value of the columns of `set` with k = 1, which is written out: the compiler then makes a plain maximum of a row's k-max. Of the work buffer only
+// the first M places change.
 pub fn critical_value(table: &[f64], work: &mut [f64], f: Figures, set: u32) -> Found
-    requires { ⌜ CheckedTable (now table) (f .rows) (f .columns) (f .k) × (f .rows ≤ length (now work)) × (f .k ≤ size (columnsOf (f .columns) set)) × (f .e < f .rows) ⌝ }
+    requires { ⌜ CheckedTable (now table) (f .rows) (f .columns) (f .k) × (f .rows ≤ length (now work)) × (f .k ≤ size (columnsOf (f .columns) set)) × (f .e < f .rows) × (f .k ≡ 1) ⌝ }
     ensures { λ r. ⌜ (r ≡ foundOf (f .k) (f .e) (rowsOf (f .rows) (f .columns) (now (table .entry))) (columnsOf (f .columns) set)) × (drop (f .rows) (now (work .exit)) ≡ drop (f .rows) (now (work .entry))) ⌝ }
 {
     let m = kmax::members(f.columns, set);
     let n = m.count;
     let columns = m.columns;
-    fill(table, work, f.rows, f.columns, f.k, set, &columns[..n]);
+    fill(table, work, f.rows, f.columns, 1, set, &columns[..n]);
     let c = select::mth_smallest(&work[..f.rows], f.rows - f.e);
     Found {
         value: c,

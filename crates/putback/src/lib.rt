@@ -28,9 +28,9 @@ pub struct Bar {
     pub row: usize,
 }
 
-// That of one set; it is called with k = 1.
+// That of one set, with k = 1.
 fn alone(table: &[f64], work: &mut [f64], f: Figures, set: u32) -> Bar
-    requires { ⌜ CheckedTable (now table) (f .rows) (f .columns) (f .k) × (f .rows ≤ length (now work)) × (f .k ≤ size (columnsOf (f .columns) set)) × (f .e < f .rows) × (set < 2 ^ f .columns) ⌝ }
+    requires { ⌜ CheckedTable (now table) (f .rows) (f .columns) (f .k) × (f .rows ≤ length (now work)) × (f .k ≤ size (columnsOf (f .columns) set)) × (f .e < f .rows) × (set < 2 ^ f .columns) × (f .k ≡ 1) ⌝ }
     ensures { λ r. ⌜ (r ≡ barOf (f .k) (f .e) (rowsOf (f .rows) (f .columns) (now (table .entry))) (columnsOf (f .columns) set ∷ []) (criticalValue (f .k) (f .e) (rowsOf (f .rows) (f .columns) (now (table .entry))) (columnsOf (f .columns) set))) × (drop (f .rows) (now (work .exit)) ≡ drop (f .rows) (now (work .entry))) ⌝ }
 {
     let c = critical::critical_value(table, work, f, set);

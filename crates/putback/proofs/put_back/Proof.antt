@@ -7,7 +7,7 @@ use Rattle.putback.proofs.put_back.Statement.{statement}
 use Rattle.putback.proofs.put_back.Tie as tie
 
 alone-requires : tie.Need-alone-requires
-alone-requires c κs = let q = c .before .before .before .before .before .before .before .pre in (q .0, q .1, omega (arith, q .4, c .before .if1 .taken), q .2, q .3 .inside)
+alone-requires c κs = let q = c .before .before .before .before .before .before .before .pre in (q .0, q .1, omega (arith, q .4, c .before .if1 .taken), q .2, q .3 .inside, c .before .if1 .taken)
 
 returns : tie.Need-returns
 returns c = let q = c .before .before .before .before .before .before .before .before .before .before .pre in let v = c .before .before .alone .ensures in (left-bar _ (q .0) _ _ (c .before .before .before .before .if1 .taken) (v .0), v .1)

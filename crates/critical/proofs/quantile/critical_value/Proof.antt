@@ -1,7 +1,7 @@
 -- `critical_value` meets its contract.
 use lib.Seq.{length-take-le}
 use Rattle.critical.proofs.TableRows.{back-is, front-rank}
-use Rattle.critical.proofs.LowestRow.{found-is}
+use Rattle.critical.proofs.LowestRow.{one-checked, one-found, found-is}
 use mathlib.Core.Path.{sym}
 use native.Mathlib.Omega.{arith}
 use Prim.Native.Nat.{_-_}
@@ -18,11 +18,14 @@ slice-aggregate-fill c = let m = c .before .before .before .members in sym (leng
 slice-aggregate-mth-smallest : tie.Need-slice-aggregate-mth-smallest
 slice-aggregate-mth-smallest c = let f = c .before .before .before in sym (length-take-le (f .before .before .before .before .before .before .before .args .f .rows) (f .fill .last .1 .0) (omega (arith, f .fill .kept .1 .0)))
 
+fill-requires : tie.Need-fill-requires
+fill-requires c κs = let p = c .before .before .before .before .before .before .pre in (one-checked (p .0) (p .4), p .1, omega (arith, p .2, p .4), c .before .before .before .members .ensures .1)
+
 mth-smallest-requires : tie.Need-mth-smallest-requires
 mth-smallest-requires c κs =
     let f = c .before .before .before .before in
     let p = f .before .before .before .before .before .before .before .pre in
-    front-rank _ _ _ _ _ _ (p .0) (p .3) _ _ (f .fill .ensures)
+    front-rank _ _ _ _ _ _ (one-checked (p .0) (p .4)) (p .3) _ _ (f .fill .ensures)
 
 slice-aggregate-first-equal : tie.Need-slice-aggregate-first-equal
 slice-aggregate-first-equal c = let f = c .before .before .before .before .before .before in sym (length-take-le (f .before .before .before .before .before .before .before .args .f .rows) (f .fill .last .1 .0) (omega (arith, f .fill .kept .1 .0)))
@@ -31,7 +34,7 @@ returns : tie.Need-returns
 returns c =
     let f = c .before .before .before .before .before .before .before in
     let p = f .before .before .before .before .before .before .before .pre in
-    (found-is _ _ _ _ _ _ (p .0) (p .3) _ _ (f .fill .ensures) _ _ (c .before .before .mth-smallest .ensures) (c .first-equal .ensures), back-is _ _ _ _ _ _ (p .0) (p .3) _ _ (f .fill .ensures))
+    (one-found _ _ _ _ _ _ (p .4) (found-is _ _ _ _ _ _ (one-checked (p .0) (p .4)) (p .3) _ _ (f .fill .ensures) _ _ (c .before .before .mth-smallest .ensures) (c .first-equal .ensures)), back-is _ _ _ _ _ _ (one-checked (p .0) (p .4)) (p .3) _ _ (f .fill .ensures))
 
 pub critical-value-spec : {M : Type 1} → statement M
 critical-value-spec =
@@ -40,7 +43,7 @@ critical-value-spec =
     (λ c κs. search needs)
     array-share-prefix-columns
     slice-aggregate-fill
-    (λ c κs. search needs)
+    fill-requires
     (λ c. search needs)
     slice-aggregate-mth-smallest
     (λ c. search needs)
