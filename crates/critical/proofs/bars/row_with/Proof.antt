@@ -20,14 +20,14 @@ use Rattle.critical.proofs.bars.row_with.Statement.{statement}
 use Rattle.critical.proofs.bars.row_with.Tie as tie
 
 abbrev Inv-loop : tie.InvT-loop
-Inv-loop table f set list v g₀ g = (g ≤ f .rows) × T (finite v) × CheckedTable table (f .rows) (f .columns) (f .k) × (f .k ≤ size (columnsOf (f .columns) set)) × (list ≡ membersFrom 0 (columnsOf (f .columns) set))
-    × (barRow (f .k) (rowsOf (f .rows) (f .columns) table) (columnsOf (f .columns) set) v ≡ g + firstAt (λ row. equal v (kMax (f .k) (columnsOf (f .columns) set) row)) (drop g (rowsOf (f .rows) (f .columns) table)))
+Inv-loop table f set list v g₀ g = (barRow (f .k) (rowsOf (f .rows) (f .columns) table) (columnsOf (f .columns) set) v ≡ g + firstAt (λ row. equal v (kMax (f .k) (columnsOf (f .columns) set) row)) (drop g (rowsOf (f .rows) (f .columns) table)))
+    × T (finite v) × CheckedTable table (f .rows) (f .columns) (f .k) × (f .k ≤ size (columnsOf (f .columns) set)) × (list ≡ membersFrom 0 (columnsOf (f .columns) set)) × (g ≤ f .rows)
 
 abbrev μ-loop : tie.MeasureT-loop
 μ-loop table f set list v g₀ g = f .rows - g
 
 loop-holds : tie.Need-loop-holds Inv-loop μ-loop
-loop-holds c = let p = c .before .before .pre in (omega arith, p .0, p .1, p .2, p .3, rows-start _ _ _ _ _ _)
+loop-holds c = let p = c .before .before .pre in (rows-start _ _ _ _ _ _, p .0, p .1, p .2, p .3, omega arith)
 
 mul-a : tie.Need-mul-a Inv-loop μ-loop
 mul-a c = let g = c .before in let l = g .before .before .loop .inv in let f = start-fits _ _ _ (l .2 .rows-most) (l .2 .cols-most) (g .if1 .taken) in omega (arith, f)
@@ -45,13 +45,13 @@ has-k-max-requires : tie.Need-has-k-max-requires Inv-loop μ-loop
 has-k-max-requires c κs = let g = c .before .before .before in let l = g .before .before .loop .inv in let q = row-ready _ _ _ _ _ _ (l .2) (l .4) _ (g .if1 .taken) (l .3) in (l .1, q .0, q .1, q .2, q .3, q .4)
 
 returns : tie.Need-returns Inv-loop μ-loop
-returns c = let g = c .before .before .before .before .before in let l = g .before .before .loop .inv in rows-hit _ _ _ _ _ _ (l .2) (l .4) _ _ (g .if1 .taken) (c .before .has-k-max .ensures) (c .if2 .taken) (l .5)
+returns c = let g = c .before .before .before .before .before in let l = g .before .before .loop .inv in rows-hit _ _ _ _ _ _ (l .2) (l .4) _ _ (g .if1 .taken) (c .before .has-k-max .ensures) (c .if2 .taken) (l .0)
 
 loop-again : tie.Need-loop-again Inv-loop μ-loop
-loop-again c = let g = c .before .before .before .before .before in let l = g .before .before .loop .inv in (omega (arith, g .if1 .taken), l .1, l .2, l .3, l .4, rows-on _ _ _ _ _ _ (l .2) (l .4) _ _ (g .if1 .taken) (c .before .has-k-max .ensures) (c .if2 .left) (l .5))
+loop-again c = let g = c .before .before .before .before .before in let l = g .before .before .loop .inv in (rows-on _ _ _ _ _ _ (l .2) (l .4) _ _ (g .if1 .taken) (c .before .has-k-max .ensures) (c .if2 .left) (l .0), l .1, l .2, l .3, l .4, omega (arith, g .if1 .taken))
 
 returns-2 : tie.Need-returns-2 Inv-loop μ-loop
-returns-2 c = let l = c .before .before .loop .inv in rows-out _ _ _ _ _ _ _ (c .if1 .left) (l .0) (l .5)
+returns-2 c = let l = c .before .before .loop .inv in rows-out _ _ _ _ _ _ _ (c .if1 .left) (l .5) (l .0)
 
 pub row-with-spec : {M : Type 1} → statement M
 row-with-spec =
