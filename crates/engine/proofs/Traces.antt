@@ -25,12 +25,15 @@ use Rattle.engine.specs.declared.tracing.Trace.{Trace}
 abbrev pub lookFrom : Trace → ℕ → Float → ℕ → Verdict
 lookFrom t i last j = verdictOver last (drop i (take (t .steps) (t .records))) (drop i (take (t .steps) (t .sets))) j
 
+-- what a read beyond the records gives
+abbrev blank : Record
+blank = record { step = 0; critical = nan; row = 0; offer = 0 }
+
 module _ (t : Trace) (i j : ℕ) (last : Float) (d : Traced t) (h : i < t .steps) where
-  rec : Record
-  rec = getD (t .records) i (record { step = 0; critical = nan; row = 0; offer = 0 })
+  abbrev rec : Record
+  rec = getD (t .records) i blank
 
   look-more : lookFrom t i last j ≡ cond (inSet (getD (t .sets) i 0) j) (Rejected (rec .step) (rec .critical)) (lookFrom t (i + 1) (rec .critical) j)
-  unfolding rec
   look-more = ap₂ (λ (rs : List Record) (ss : List ℕ). verdictOver last rs ss j) front (front-sets)
     where
       r-length : length (take (t .steps) (t .records)) ≡ t .steps
@@ -39,19 +42,17 @@ module _ (t : Trace) (i j : ℕ) (last : Float) (d : Traced t) (h : i < t .steps
       s-length : length (take (t .steps) (t .sets)) ≡ t .steps
       s-length = length-take-le (t .steps) (t .sets) (omega (arith, d .steps-most, d .sets-32))
 
-      front : drop i (take (t .steps) (t .records)) ≡ getD (t .records) i (record { step = 0; critical = nan; row = 0; offer = 0 }) ∷ drop (i + 1) (take (t .steps) (t .records))
-      front = drop-cons (take (t .steps) (t .records)) i (record { step = 0; critical = nan; row = 0; offer = 0 }) (omega (arith, r-length))
-          ∙ ap₂ (λ (x : Record) (n : ℕ). x ∷ drop n (take (t .steps) (t .records))) (getD-take (t .steps) (t .records) i (record { step = 0; critical = nan; row = 0; offer = 0 }) h) (sym (add-one i))
+      front : drop i (take (t .steps) (t .records)) ≡ rec ∷ drop (i + 1) (take (t .steps) (t .records))
+      front = drop-cons (take (t .steps) (t .records)) i blank (omega (arith, r-length))
+          ∙ ap₂ (λ (x : Record) (n : ℕ). x ∷ drop n (take (t .steps) (t .records))) (getD-take (t .steps) (t .records) i blank h) (sym (add-one i))
 
       front-sets : drop i (take (t .steps) (t .sets)) ≡ getD (t .sets) i 0 ∷ drop (i + 1) (take (t .steps) (t .sets))
       front-sets = drop-cons (take (t .steps) (t .sets)) i 0 (omega (arith, s-length)) ∙ ap₂ (λ (x n : ℕ). x ∷ drop n (take (t .steps) (t .sets))) (getD-take (t .steps) (t .sets) i 0 h) (sym (add-one i))
 
-  pub look-hit : (r : Record) → r ≡ getD (t .records) i (record { step = 0; critical = nan; row = 0; offer = 0 }) → getD (t .sets) i 0 / 2 ^ j % 2 ≡ 1 → verdictIn t j ≡ lookFrom t i last j → Rejected (r .step) (r .critical) ≡ verdictIn t j
-  unfolding rec
+  pub look-hit : (r : Record) → r ≡ rec → getD (t .sets) i 0 / 2 ^ j % 2 ≡ 1 → verdictIn t j ≡ lookFrom t i last j → Rejected (r .step) (r .critical) ≡ verdictIn t j
   look-hit r q e v = sym (v ∙ look-more ∙ ap (λ (b : Bool). cond b (Rejected (rec .step) (rec .critical)) (lookFrom t (i + 1) (rec .critical) j)) (eq-eqb (getD (t .sets) i 0 / 2 ^ j % 2) 1 e) ∙ ap (λ (x : Record). Rejected (x .step) (x .critical)) (sym q))
 
-  pub look-on : (r : Record) → r ≡ getD (t .records) i (record { step = 0; critical = nan; row = 0; offer = 0 }) → (getD (t .sets) i 0 / 2 ^ j % 2 ≡ 1 → ⊥) → verdictIn t j ≡ lookFrom t i last j → verdictIn t j ≡ lookFrom t (i + 1) (r .critical) j
-  unfolding rec
+  pub look-on : (r : Record) → r ≡ rec → (getD (t .sets) i 0 / 2 ^ j % 2 ≡ 1 → ⊥) → verdictIn t j ≡ lookFrom t i last j → verdictIn t j ≡ lookFrom t (i + 1) (r .critical) j
   look-on r q e v = v ∙ look-more ∙ ap (λ (b : Bool). cond b (Rejected (rec .step) (rec .critical)) (lookFrom t (i + 1) (rec .critical) j)) (ne-eqb (getD (t .sets) i 0 / 2 ^ j % 2) 1 e) ∙ ap (λ (x : Record). lookFrom t (i + 1) (x .critical) j) (sym q)
 
 pub look-start : (t : Trace) (j : ℕ) → verdictIn t j ≡ lookFrom t 0 plusZero j

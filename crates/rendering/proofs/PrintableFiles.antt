@@ -87,7 +87,7 @@ module _ (X : List (List Float)) (r : State) where
     abbrev blank : Record
     blank = record { step = 0; critical = nan; row = 0; offer = 0 }
 
-    record-there : (i : ℕ) → i < length (fullRun X r .records) → recordAt (acceptedRun (fullRun X r)) i ≡ getD (fullRun X r .records) i (record { step = 0; critical = nan; row = 0; offer = 0 })
+    record-there : (i : ℕ) → i < length (fullRun X r .records) → recordAt (acceptedRun (fullRun X r)) i ≡ getD (fullRun X r .records) i blank
     unfolding acceptedRun
     record-there i h = let rs = fullRun X r .records in List·getD-append rs (replicate (stepsMost - length rs) noRecord) blank i h
 
