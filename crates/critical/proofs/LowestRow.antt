@@ -15,7 +15,7 @@ use borrow.Author.Tests.{ltb-false}
 use Rattle.order.specs.Order.{finite, equal, withPlusZero}
 use Rattle.order.specs.Counting.{count, all}
 use Rattle.order.specs.Lists.{rowsOf, firstAt}
-use Rattle.order.proofs.Booleans.{T-false}
+use Rattle.order.proofs.Booleans.{not-T}
 use Rattle.order.proofs.Counts.{none-counted, all-le, all-map, all-getD}
 use Rattle.order.proofs.Firsts.{first-map, first-hit, first-on, first-out}
 use Rattle.order.proofs.Rows.{none-equal}
@@ -35,14 +35,10 @@ use Rattle.critical.proofs.TableRows.{row-value, front-is, quantile-is}
 pub no-k-max : (row : List Float) (list : List ℕ) (k : ℕ) (v : Float) → T (finite v) → T (all finite row) → T (all (λ j. ltb j (length row)) list) → 0 < k → k ≤ length list
     → ltb 0 (count (λ x. equal v x) row) ≡ false → false ≡ equal v (kthLargest k (map (λ j. getD row j nan) list))
 no-k-max row list k v f fs listed pos few none =
-    sym (T-false (equal v (kthLargest k xs)) (λ t. off (equal v (kthLargest k xs)) t (kthLargest-holds k xs (listed-finite row list fs listed) pos (omega (arith, length-map list (λ j. getD row j nan))) (λ x. not (equal v x)) others)))
+    sym (not-T (equal v (kthLargest k xs)) (kthLargest-holds k xs (listed-finite row list fs listed) pos (omega (arith, length-map list (λ j. getD row j nan))) (λ x. not (equal v x)) others))
   where
     xs : List Float
     xs = map (λ j. getD row j nan) list
-
-    off : (b : Bool) → T b → T (not b) → ⊥
-    off true t u = u
-    off false t u = t
 
     apart : T (all (λ x. not (equal v (withPlusZero x))) row)
     apart = none-equal (λ x. x) finite row v f fs (λ x t. t) (none-counted (λ x. equal v x) row (let h = ltb-false 0 (count (λ x. equal v x) row) none in omega (arith, h)))

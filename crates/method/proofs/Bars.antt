@@ -17,10 +17,10 @@ use lib.Ieee.{Float, nan}
 use Rattle.order.specs.Order.{finite, atMost, equal, withPlusZero}
 use Rattle.order.specs.Counting.{all}
 use Rattle.order.specs.Lists.{firstAt}
-use Rattle.order.proofs.Booleans.{and-left, and-right, true-T}
+use Rattle.order.proofs.Booleans.{true-T}
 use Rattle.order.proofs.Counts.{all-getD, all-map, all-true, count-some}
 use Rattle.order.proofs.Firsts.{first-passes, first-before, first-none}
-use Rattle.order.proofs.Keys.{key, atMost-key, zero-finite, equal-self, equal-key, withPlusZero-same}
+use Rattle.order.proofs.Keys.{key, atMost-le, zero-finite, equal-self, equal-same}
 use Rattle.order.proofs.Rows.{Finite, Sound, soundRow, sound-length, sound-finite, sound-all, none-equal}
 use Rattle.select.specs.Rank.{kthLargest}
 use Rattle.select.proofs.Ranks.{kthLargest-ranks, kthLargest-holds, mthSmallest-holds}
@@ -40,10 +40,6 @@ module _ {A : Type 0} (f : A → Float) (r : A → Bool) (xs : List A) (c : Floa
       go : Dec (firstAt (λ x. equal c (f x)) xs < length xs) → firstAt (λ x. equal c (f x)) xs < length xs
       go (yes h) = h
       go (no g) = absurd (subst (λ (b : Bool). T (not b)) (equal-self c good) (holds (λ x. not (equal c x)) (none-equal f r xs c good rs fin (first-none (λ x. equal c (f x)) xs g))))
-
--- equal values without a minus sign on zero are the same
-equal-same : (x y : Float) → T (finite x) → T (finite y) → withPlusZero x ≡ x → withPlusZero y ≡ y → T (equal x y) → x ≡ y
-equal-same x y p q a b t = sym a ∙ withPlusZero-same x y p q (equal-key x y p q t) ∙ b
 
 -- ---- the column of a row's k-max
 
@@ -173,5 +169,5 @@ module _ (n k e : ℕ) (X : List (List Float)) (s : Sound n X) (A R : Columns) (
   pub put-most : (i : ℕ) → i < length (choose (k - 1) R) → T (atMost (criticalValue k e X (A ∪ getD (choose (k - 1) R) i [])) (putBack k e X A R))
   put-most i h =
       let c = criticalValue k e X (A ∪ getD (choose (k - 1) R) i []) in
-      true-T (atMost c (putBack k e X A R)) (atMost-key c (putBack k e X A R) (criticalValue-finite n k e X (A ∪ getD (choose (k - 1) R) i []) s) put-finite ∙ le-leb (key c) (key (putBack k e X A R))
-      (putBack-reaches n k e X s A R (key c) (count-some (λ I. leb (key c) (key (criticalValue k e X (A ∪ I)))) (choose (k - 1) R) i [] h (true-T (leb (key c) (key c)) (le-leb (key c) (key c) (omega arith))))))
+      atMost-le c (putBack k e X A R) (criticalValue-finite n k e X (A ∪ getD (choose (k - 1) R) i []) s) put-finite
+      (putBack-reaches n k e X s A R (key c) (count-some (λ I. leb (key c) (key (criticalValue k e X (A ∪ I)))) (choose (k - 1) R) i [] h (true-T (leb (key c) (key c)) (le-leb (key c) (key c) (omega arith)))))

@@ -15,11 +15,10 @@ use mathlib.Core.List.{List, [], map}
 use lib.ListN.{length, getD, length-map}
 use lib.Dec.{ltb, leb, T, ltb→lt, lt→ltb, leb→le}
 use lib.Ieee.{Float, nan}
-use borrow.Author.Tests.{le-leb}
 use Rattle.order.specs.Order.{plusZero, atMost, finite, withPlusZero}
 use Rattle.order.specs.Counting.{count, all}
-use Rattle.order.proofs.Booleans.{true-T, and-left, and-right, not-below}
-use Rattle.order.proofs.Keys.{key, atMost-key, zero-finite, withPlusZero-key}
+use Rattle.order.proofs.Booleans.{and-left, and-right, not-below}
+use Rattle.order.proofs.Keys.{key, atMost-le, zero-finite, withPlusZero-key}
 use Rattle.order.proofs.Counts.{count-some, all-getD, all-true, all-le, all-both, all-map, count-le, count-map}
 use Rattle.order.proofs.Rows.{Finite, soundRow, Sound, sound-length, sound-finite, sound-at, sound-all}
 use Rattle.select.specs.Rank.{kthLargest, mthSmallest}
@@ -152,7 +151,7 @@ putBack-keeps p z k e X A R h = kthLargest-keeps p z 1 (map (λ I. criticalValue
 -- a row that shows the value is counted, the observed one too
 pub atLeast-own : (n : ℕ) (X : List (List Float)) (g j : ℕ) → Sound n X → g < length X → j < n → 0 < atLeast X (getD (getD X g []) j nan) j
 unfolding atLeast
-atLeast-own n X g j s h l = count-some (λ row. atMost v (getD row j nan)) X g [] h (true-T (atMost v v) (atMost-key v v f f ∙ le-leb (key v) (key v) (omega arith)))
+atLeast-own n X g j s h l = count-some (λ row. atMost v (getD row j nan)) X g [] h (atMost-le v v f f (omega arith))
   where
     v : Float
     v = getD (getD X g []) j nan

@@ -50,6 +50,15 @@ pub or-right : (a b : Bool) → T b → T (a || b)
 or-right true b t = tt
 or-right false b t = t
 
+-- what does not hold is false; of two that do not hold together, the other
+pub not-T : (b : Bool) → T (not b) → b ≡ false
+not-T true t = absurd t
+not-T false t = refl
+
+pub and-other : (a b : Bool) → (a && b) ≡ false → T a → b ≡ false
+and-other true b e t = e
+and-other false b e t = absurd t
+
 -- "not b, or c" is that c holds where b does
 pub if-holds : (b c : Bool) → (T b → T c) → T (not b || c)
 if-holds true c f = f tt

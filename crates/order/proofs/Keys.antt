@@ -2,8 +2,9 @@
 --   key x            the number x in units of the smallest positive value, shifted so that it is never negative
 --   mag, signed      a magnitude in these units, and so many above or below zero's key; mag-lt, zero-mag, no-mag: its bound, and zero's
 --   smaller-key      x is smaller than y exactly where its key is
---   atMost-key       the same of at most; equal-is, equal-key: equal numbers have one key, and only those; equal-self, equal-withPlusZero: each equals itself, and with plus zero for either zero
---   withPlusZero-same    finite values with one key differ at most in the sign of zero
+--   atMost-key       the same of at most; atMost-le: from keys; smaller-unequal: at most and not equal is smaller
+--   equal-is, equal-key      equal numbers have one key, and only those; equal-self, equal-withPlusZero: each equals itself, and with plus zero for either zero
+--   withPlusZero-same    finite values with one key differ at most in the sign of zero; equal-same: equal ones without a minus sign on zero are the same
 use Prim.Native.Nat.{ℕ, zero, suc, _+_, _-_, _*_, _/_, _^_, _≤_, _<_, _%_}
 use native.Mathlib.Omega.{arith}
 use native.Mathlib.Nat.{mul-one, div-one, mul-assoc, mul-comm, mul-left-comm, mul-pos, mul-div-cancel, mul-lt-mul-of-pos-right, lt-of-mul-lt-mul-right, zero-mul, add-mul, le-of-eq, lt-of-le-of-lt}
@@ -18,9 +19,9 @@ use lib.Ieee.{Float, nan, inf, fin, Format, binary64, prec, emax, low, up, down,
 use lib.Ieee.Fits.{down-pos, and-l, and-r}
 use lib.Ieee.Scale.{overflow}
 use lib.Ieee.Bits.{ofBits-toBits}
-use borrow.Author.Tests.{lt-ltb, le-ltb, le-leb, lt-leb, eq-eqb, ne-eqb}
+use borrow.Author.Tests.{lt-ltb, le-ltb, le-leb, lt-leb, eq-eqb, ne-eqb, eqb-false}
 use Rattle.order.specs.Order.{smaller, atMost, equal, finite, plusZero, withPlusZero}
-use Rattle.order.proofs.Booleans.{iff-ltb, leb-not, and-left, and-right}
+use Rattle.order.proofs.Booleans.{iff-ltb, leb-not, true-T}
 
 -- ---- magnitudes, in any format
 
@@ -170,14 +171,10 @@ atMost-not (fin s m e) (fin t n d) p q = level-not s t (m * up e * down d) (n * 
 pub atMost-key : (x y : Float) → T (finite x) → T (finite y) → atMost x y ≡ leb (key x) (key y)
 atMost-key x y p q = atMost-not x y p q ∙ ap not (smaller-key y x q p) ∙ sym (leb-not (key x) (key y))
 
--- values that are equal as numbers have one key
-pub equal-key : (x y : Float) → T (finite x) → T (finite y) → T (equal x y) → key x ≡ key y
-equal-key x y p q t =
-    let one = leb→le (key x) (key y) (subst (λ (b : Bool). T b) (atMost-key x y p q) (and-left (atMost x y) (atMost y x) t)) in
-    let two = leb→le (key y) (key x) (subst (λ (b : Bool). T b) (atMost-key y x q p) (and-right (atMost x y) (atMost y x) t)) in
-    omega (arith, one, two)
+pub atMost-le : (x y : Float) → T (finite x) → T (finite y) → key x ≤ key y → T (atMost x y)
+atMost-le x y p q h = true-T (atMost x y) (atMost-key x y p q ∙ le-leb (key x) (key y) h)
 
--- and only those
+-- values that are equal as numbers have one key, and only those
 pub equal-is : (x y : Float) → T (finite x) → T (finite y) → equal x y ≡ eqb (key x) (key y)
 equal-is x y p q = ap₂ (λ (a b : Bool). a && b) (atMost-key x y p q) (atMost-key y x q p) ∙ both (key x) (key y) (decLt (key x) (key y)) (decLt (key y) (key x))
   where
@@ -185,6 +182,15 @@ equal-is x y p q = ap₂ (λ (a b : Bool). a && b) (atMost-key x y p q) (atMost-
     both a b (yes g) h = rw (le-leb a b (omega arith), lt-leb b a g, ne-eqb a b (λ q. omega arith))
     both a b (no g) (yes h) = rw (lt-leb a b h, ne-eqb a b (λ q. omega arith))
     both a b (no g) (no h) = rw (le-leb a b (omega (arith, h)), le-leb b a (omega (arith, g)), eq-eqb a b (omega (arith, g, h)))
+
+pub equal-key : (x y : Float) → T (finite x) → T (finite y) → T (equal x y) → key x ≡ key y
+equal-key x y p q t = eqb→eq (key x) (key y) (subst (λ (b : Bool). T b) (equal-is x y p q) t)
+
+pub smaller-unequal : (x y : Float) → T (finite x) → T (finite y) → T (atMost x y) → equal y x ≡ false → T (smaller x y)
+smaller-unequal x y p q t e =
+    let le = leb→le (key x) (key y) (subst (λ (b : Bool). T b) (atMost-key x y p q) t) in
+    let ne = eqb-false (key y) (key x) (sym (equal-is y x q p) ∙ e) in
+    true-T (smaller x y) (smaller-key x y p q ∙ lt-ltb (key x) (key y) (omega (arith, le, ne)))
 
 -- a value equals itself
 pub equal-self : (x : Float) → T (finite x) → equal x x ≡ true
@@ -277,3 +283,7 @@ withPlusZero-same (fin s m e) (fin t n d) p q h =
     go false true B x y a b h f g = g (omega arith) (omega arith)
     go true false B x y a b h f g = g (omega arith) (omega arith)
     go true true B x y a b h f g = f refl (omega arith)
+
+-- equal values without a minus sign on zero are the same
+pub equal-same : (x y : Float) → T (finite x) → T (finite y) → withPlusZero x ≡ x → withPlusZero y ≡ y → T (equal x y) → x ≡ y
+equal-same x y p q a b t = sym a ∙ withPlusZero-same x y p q (equal-key x y p q t) ∙ b

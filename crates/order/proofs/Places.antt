@@ -14,11 +14,11 @@ use lib.IntN.{ℤ, pos}
 use lib.Dec.{T, ltb}
 use lib.Ieee.{Float, nan, inf, fin, Format, binary64, hid, ones, toBits, fits}
 use lib.Ieee.Scale.{overflow}
-use borrow.Author.Tests.{lt-ltb, le-ltb, le-leb}
+use borrow.Author.Tests.{lt-ltb, le-ltb}
 use Rattle.order.specs.Order.{smaller, atMost, equal, finite, plusZero, withPlusZero}
 use Rattle.order.specs.Places.{bitsPlace, place}
 use Rattle.order.proofs.Booleans.{iff-ltb, never, true-T, and-both, not-below, not-within}
-use Rattle.order.proofs.Keys.{mag, signed, mag-lt, key, smaller-key, atMost-key, equal-key, withPlusZero-same, withPlusZero-key, withPlusZero-twice, no-mag}
+use Rattle.order.proofs.Keys.{mag, signed, mag-lt, key, smaller-key, atMost-le, equal-key, withPlusZero-same, withPlusZero-key, withPlusZero-twice, no-mag}
 use Rattle.order.proofs.Patterns.{packed, pattern, packed-lower, fits-sign, packed-top, packed-bound}
 
 -- ---- where a finite value stands
@@ -104,11 +104,8 @@ module _ (x y : Float) (u : T (finite x)) (v : T (finite y)) where
   pub place-equal : T (equal x y) ↔ (place x ≡ place y)
   place-equal = (
     λ t. let q = equal-key x y u v t in omega (arith, up-to x y u v (omega arith), up-to y x v u (omega arith)),
-    λ q. and-both (atMost x y) (atMost y x) (no-larger x y u v (λ g. omega (arith, lower (placed-at y v) (placed-at x u) g))) (no-larger y x v u (λ g. omega (arith, lower (placed-at x u) (placed-at y v) g))),
+    λ q. and-both (atMost x y) (atMost y x) (atMost-le x y u v (not-below (key y) (key x) (λ g. omega (arith, lower (placed-at y v) (placed-at x u) g)))) (atMost-le y x v u (not-below (key x) (key y) (λ g. omega (arith, lower (placed-at x u) (placed-at y v) g)))),
   )
-    where
-      no-larger : (x y : Float) → T (finite x) → T (finite y) → (key y < key x → ⊥) → T (atMost x y)
-      no-larger x y u v h = true-T (atMost x y) (atMost-key x y u v ∙ le-leb (key x) (key y) (not-below (key y) (key x) h))
 
 pub place-plain : (x : Float) → place (withPlusZero x) ≡ place x
 unfolding place

@@ -12,13 +12,12 @@ use mathlib.Core.Path.{_≡_, refl, sym, ap, _∙_, subst}
 use mathlib.Core.Bool.{Bool, true, false, _&&_}
 use mathlib.Core.List.{List, [], _∷_, map}
 use lib.ListN.{length, getD, length-map}
-use lib.Dec.{T, leb→le}
+use lib.Dec.{T}
 use lib.Ieee.{Float, nan}
-use borrow.Author.Tests.{lt-ltb, eqb-false}
-use Rattle.order.specs.Order.{finite, smaller, atMost, equal, withPlusZero}
-use Rattle.order.proofs.Booleans.{and-left, and-right, true-T}
+use Rattle.order.specs.Order.{finite, atMost, equal, withPlusZero}
+use Rattle.order.proofs.Booleans.{and-left, and-right, and-other, true-T}
 use Rattle.order.proofs.Counts.{all-getD}
-use Rattle.order.proofs.Keys.{key, smaller-key, atMost-key, equal-is, equal-self}
+use Rattle.order.proofs.Keys.{atMost-le, smaller-unequal, equal-self}
 use Rattle.order.proofs.Lists.{getD-map}
 use Rattle.order.proofs.Rows.{Sound, soundRow}
 use Rattle.columns.specs.Columns.{Columns, size, _∪_, choose}
@@ -75,16 +74,13 @@ module _ (X : List (List Float)) (r : State) (w : Ready X r) where
     member : (i : ℕ) → i < length (sets s) → (getD (sets s) i [] ⊆ liveSet r) × (r .k ≤ size (getD (sets s) i []))
     most : (i : ℕ) → i < length (sets s) → T (atMost (criticalValue (r .k) (r .e) X (getD (sets s) i [])) (value s))
 
-  at-most-self : (v : Float) → T (finite v) → T (atMost v v)
-  at-most-self v f = and-left (atMost v v) (atMost v v) (true-T (equal v v) (equal-self v f))
-
   told-first : r .steps ≡ 0 → Told 0
   unfolding stepSets stepCritical
   told-first z = record {
     there = omega (arith, bars.alone-there (r .columns) (r .k) (r .e) X (liveSet r) (p .sound));
     plain = criticalValue-plain (r .k) (r .e) X (liveSet r);
     member = λ i h. alone i h (λ K. (K ⊆ liveSet r) × (r .k ≤ size K)) (⊆-refl (liveSet r), w .first z);
-    most = λ i h. alone i h (λ K. T (atMost (criticalValue (r .k) (r .e) X K) (criticalValue (r .k) (r .e) X (liveSet r)))) (at-most-self (criticalValue (r .k) (r .e) X (liveSet r)) (criticalValue-finite (r .columns) (r .k) (r .e) X (liveSet r) (p .sound)));
+    most = λ i h. alone i h (λ K. T (atMost (criticalValue (r .k) (r .e) X K) (criticalValue (r .k) (r .e) X (liveSet r)))) (let f = criticalValue-finite (r .columns) (r .k) (r .e) X (liveSet r) (p .sound) in atMost-le (criticalValue (r .k) (r .e) X (liveSet r)) (criticalValue (r .k) (r .e) X (liveSet r)) f f (omega arith));
   }
     where
       alone : (i : ℕ) → i < 1 → (P : Columns → Type 0) → P (liveSet r) → P (getD (liveSet r ∷ []) i [])
@@ -186,16 +182,6 @@ module _ (X : List (List Float)) (r : State) (w : Ready X r) where
 
   -- ---- all of it
 
-  smaller-not : (x c : Float) → T (finite x) → T (finite c) → T (atMost x c) → equal c x ≡ false → T (smaller x c)
-  smaller-not x c f g t e =
-      let le = leb→le (key x) (key c) (subst (λ (b : Bool). T b) (atMost-key x c f g) t) in
-      let ne = eqb-false (key c) (key x) (sym (equal-is c x g f) ∙ e) in
-      true-T (smaller x c) (smaller-key x c f g ∙ lt-ltb (key x) (key c) (omega (arith, le, ne)))
-
-  only-right : (a b : Bool) → (a && b) ≡ false → T a → b ≡ false
-  only-right true b e t = e
-  only-right false b e t = absurd t
-
   pub set-by : SetBy (r .k) (r .e) X (stepSets (r .k) (liveSet r) (rejectedSet r) (r .steps)) (recordOf X r)
   unfolding recordOf barSetOf barSet barRowOf criticalOf
   set-by =
@@ -207,7 +193,7 @@ module _ (X : List (List Float)) (r : State) (w : Ready X r) where
         place = bars.setPlace (r .k) (r .e) X (sets (r .steps)) c;
         walked = told .there;
         gives = bar-gives;
-        earlier = λ i h. smaller-not (criticalValue (r .k) (r .e) X (getD (sets (r .steps)) i [])) c (criticalValue-finite (r .columns) (r .k) (r .e) X (getD (sets (r .steps)) i []) (p .sound)) finitely
+        earlier = λ i h. smaller-unequal (criticalValue (r .k) (r .e) X (getD (sets (r .steps)) i [])) c (criticalValue-finite (r .columns) (r .k) (r .e) X (getD (sets (r .steps)) i []) (p .sound)) finitely
             (told .most i (omega (arith, told .there))) (bars.set-before (r .k) (r .e) X (sets (r .steps)) c i h);
         largest = told .most;
         row-below = row-below;
@@ -216,7 +202,7 @@ module _ (X : List (List Float)) (r : State) (w : Ready X r) where
         offer-some = omega (arith, offer-told .0);
         offer-in = subst (λ (j : ℕ). T (has K j)) (sym z) (and-left (has K column) (equal c (getD row column nan)) column-has);
         offer-equals = subst (λ (j : ℕ). T (equal c (getD row j nan))) (sym z) (and-right (has K column) (equal c (getD row column nan)) column-has);
-        offer-lowest = λ j h t. only-right (has K j) (equal c (getD row j nan))
+        offer-lowest = λ j h t. and-other (has K j) (equal c (getD row j nan))
             (subst (λ (v : Float). (has K j && equal v (getD row j nan)) ≡ false) row-gives (bars.column-first (r .k) K row sound-here (p .tolerance) bar-wide j (omega (arith, z)))) t;
       }
 

@@ -11,10 +11,9 @@ use mathlib.Core.List.{List, [], _∷_}
 use lib.ListN.{length}
 use lib.Dec.{T, leb, le→leb}
 use lib.Ieee.{Float}
-use borrow.Author.Tests.{le-leb}
 use Rattle.order.specs.Order.{atMost}
 use Rattle.order.proofs.Booleans.{or-left, true-T}
-use Rattle.order.proofs.Keys.{key, atMost-key}
+use Rattle.order.proofs.Keys.{key, atMost-le}
 use Rattle.order.proofs.Rows.{Sound}
 use Rattle.columns.specs.Columns.{Columns, size, _∪_}
 use Rattle.columns.proofs.Sets.{has, _⊆_, ⊆-by, ⊆-at, ⊆-length, length-∪, has-∪}
@@ -101,9 +100,7 @@ module _ (X : List (List Float)) where
   next-lower (suc m) true r h e = tt
   next-lower (suc m) false r h e =
       let g = next-progress X r h e in
-      true-T (atMost (criticalOf X (next X r)) (criticalOf X r))
-      (atMost-key (criticalOf X (next X r)) (criticalOf X r) (critical-finite X (next X r) (g .sound) (g .seen)) (critical-finite X r (h .sound) (h .seen))
-      ∙ le-leb (key (criticalOf X (next X r))) (key (criticalOf X r)) (critical-falls X r h e))
+      atMost-le (criticalOf X (next X r)) (criticalOf X r) (critical-finite X (next X r) (g .sound) (g .seen)) (critical-finite X r (h .sound) (h .seen)) (critical-falls X r h e)
 
   steps-fall : (m : ℕ) (b : Bool) (r : State) → r .ended ≡ b → (b ≡ false → InProgress X r) → Falling (stepsFrom m b X r)
   unfolding stepsFrom recordOf

@@ -5,12 +5,13 @@
 --   plain-set-by, plain-offer     both, of the plain run
 use Prim.Native.Nat.{ℕ, _-_, _<_}
 use native.Mathlib.Omega.{arith}
-use mathlib.Core.Path.{_≡_, refl, sym, _∙_}
-use mathlib.Core.Bool.{Bool, true, false, not}
+use mathlib.Core.Path.{_≡_, refl, _∙_, subst}
+use mathlib.Core.Bool.{Bool, false}
 use mathlib.Core.List.{List}
 use lib.ListN.{length, getD}
+use lib.Dec.{T}
 use lib.Ieee.{Float}
-use Rattle.order.proofs.Booleans.{T-true}
+use Rattle.order.proofs.Booleans.{not-T}
 use Rattle.order.proofs.Rows.{Sound}
 use Rattle.refusals.specs.Limits.{allowance}
 use Rattle.refusals.proofs.Limits.{allowance-lt}
@@ -49,12 +50,8 @@ module _ (t : Trial) (acc : Accepted t) (X : List (List Float)) (sound : Sound (
           row-below = omega (arith, o .0, tall);
           offer-some = o .1;
           offer-most = o .2;
-          tested = off (untested (t .shape .design) (figuresAt t j)) (sym (live-bit t j l) ∙ sym (has-columnsOf (t .shape .offers) (liveMask t) j l) ∙ T-true _ (o .3));
+          tested = not-T (untested (t .shape .design) (figuresAt t j)) (subst (λ (b : Bool). T b) (has-columnsOf (t .shape .offers) (liveMask t) j l ∙ live-bit t j l) (o .3));
         }
-      where
-        off : (b : Bool) → not b ≡ true → b ≡ false
-        off false q = refl
-        off true q = sym q
 
 -- ---- the plain run
 
