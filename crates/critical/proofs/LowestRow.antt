@@ -1,6 +1,6 @@
 -- The lowest row that has a value.
 --   no-k-max                   where no value of a row equals v, its k-max over listed columns does not
---   rows-start, rows-hit, rows-on, rows-out     a search over the rows
+--   FromRow, rows-start, rows-hit, rows-on, rows-out     a search over the rows
 --   one-checked, one-found     with k = 1, which is written out
 --   found-is                   the same among the k-max values of all rows, in the work buffer
 use Prim.Native.Nat.{ℕ, _+_, _-_, _*_, _≤_, _<_}
@@ -49,35 +49,37 @@ no-k-max row list k v f fs listed pos few none =
 
 -- ---- from row to row
 
-module _ (t : List Float) (rows cols k set : ℕ) (list : List ℕ) (r : CheckedTable t rows cols k) (listed : list ≡ membersFrom 0 (columnsOf cols set)) (v : Float) (g : ℕ) (h : g < rows) where
-  abbrev p : List Float → Bool
-  p row = equal v (kMax k (columnsOf cols set) row)
-
-  row-test : {b : Bool} → b ≡ equal v (kthLargest k (map (λ j. getD (take (g * cols + cols - g * cols) (drop (g * cols) t)) j nan) list)) → (c : Bool) → b ≡ c → equal v (kMax k (columnsOf cols set) (getD (rowsOf rows cols t) g [])) ≡ c
-  row-test e c q = ap (equal v) (sym (row-value t rows cols k set list r listed g h refl)) ∙ sym e ∙ q
-
-  tall : g < length (rowsOf rows cols t)
-  tall = omega (arith, rowsOf-length rows cols t)
-
-  pub rows-hit : {b : Bool} → b ≡ equal v (kthLargest k (map (λ j. getD (take (g * cols + cols - g * cols) (drop (g * cols) t)) j nan) list)) → b ≡ true
-      → barRow k (rowsOf rows cols t) (columnsOf cols set) v ≡ g + firstAt (λ row. equal v (kMax k (columnsOf cols set) row)) (drop g (rowsOf rows cols t)) → g ≡ barRow k (rowsOf rows cols t) (columnsOf cols set) v
-  unfolding barRow
-  rows-hit e q l = first-hit p (rowsOf rows cols t) [] g tall (row-test e true q) l
-
-  pub rows-on : {b : Bool} → b ≡ equal v (kthLargest k (map (λ j. getD (take (g * cols + cols - g * cols) (drop (g * cols) t)) j nan) list)) → b ≡ false
-      → barRow k (rowsOf rows cols t) (columnsOf cols set) v ≡ g + firstAt (λ row. equal v (kMax k (columnsOf cols set) row)) (drop g (rowsOf rows cols t))
-      → barRow k (rowsOf rows cols t) (columnsOf cols set) v ≡ (g + 1) + firstAt (λ row. equal v (kMax k (columnsOf cols set) row)) (drop (g + 1) (rowsOf rows cols t))
-  unfolding barRow
-  rows-on e q l = first-on p (rowsOf rows cols t) [] g tall (row-test e false q) l
-
 module _ (t : List Float) (rows cols k set : ℕ) (v : Float) where
-  pub rows-start : barRow k (rowsOf rows cols t) (columnsOf cols set) v ≡ 0 + firstAt (λ row. equal v (kMax k (columnsOf cols set) row)) (drop 0 (rowsOf rows cols t))
+  -- the lowest row that has v is the one from row g on
+  abbrev pub FromRow : ℕ → Type 0
+  FromRow g = barRow k (rowsOf rows cols t) (columnsOf cols set) v ≡ g + firstAt (λ row. equal v (kMax k (columnsOf cols set) row)) (drop g (rowsOf rows cols t))
+
+  pub rows-start : FromRow 0
   unfolding barRow
   rows-start = omega arith
 
-  pub rows-out : (g : ℕ) → rows ≤ g → g ≤ rows → barRow k (rowsOf rows cols t) (columnsOf cols set) v ≡ g + firstAt (λ row. equal v (kMax k (columnsOf cols set) row)) (drop g (rowsOf rows cols t)) → g ≡ barRow k (rowsOf rows cols t) (columnsOf cols set) v
+  pub rows-out : (g : ℕ) → rows ≤ g → g ≤ rows → FromRow g → g ≡ barRow k (rowsOf rows cols t) (columnsOf cols set) v
   unfolding barRow
   rows-out g h l q = first-out (λ row. equal v (kMax k (columnsOf cols set) row)) (rowsOf rows cols t) [] g (omega (arith, rowsOf-length rows cols t)) (omega (arith, rowsOf-length rows cols t)) q
+
+  module _ (list : List ℕ) (r : CheckedTable t rows cols k) (listed : list ≡ membersFrom 0 (columnsOf cols set)) (g : ℕ) (h : g < rows) where
+    -- what `has_k_max` answers for row g
+    abbrev pub rowHas : Bool
+    rowHas = equal v (kthLargest k (map (λ j. getD (take (g * cols + cols - g * cols) (drop (g * cols) t)) j nan) list))
+
+    row-test : {b : Bool} → b ≡ rowHas → (c : Bool) → b ≡ c → equal v (kMax k (columnsOf cols set) (getD (rowsOf rows cols t) g [])) ≡ c
+    row-test e c q = ap (equal v) (sym (row-value t rows cols k set list r listed g h refl)) ∙ sym e ∙ q
+
+    tall : g < length (rowsOf rows cols t)
+    tall = omega (arith, rowsOf-length rows cols t)
+
+    pub rows-hit : {b : Bool} → b ≡ rowHas → b ≡ true → FromRow g → g ≡ barRow k (rowsOf rows cols t) (columnsOf cols set) v
+    unfolding barRow
+    rows-hit e q l = first-hit (λ row. equal v (kMax k (columnsOf cols set) row)) (rowsOf rows cols t) [] g tall (row-test e true q) l
+
+    pub rows-on : {b : Bool} → b ≡ rowHas → b ≡ false → FromRow g → FromRow (g + 1)
+    unfolding barRow
+    rows-on e q l = first-on (λ row. equal v (kMax k (columnsOf cols set) row)) (rowsOf rows cols t) [] g tall (row-test e false q) l
 
 -- ---- among the k-max values of all rows
 

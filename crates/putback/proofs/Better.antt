@@ -3,7 +3,7 @@
 --   better-stays        no set of a list gives a larger value
 --   better-taken        the next set gives a larger one
 --   better-value        the value alone
-use mathlib.Core.Path.{_≡_, refl, sym, ap, _∙_}
+use mathlib.Core.Path.{_≡_, refl, ap, _∙_}
 use mathlib.Core.Bool.{Bool, true, false, not, cond}
 use mathlib.Core.List.{List, [], _∷_, _++_, map}
 use lib.Dec.{T}

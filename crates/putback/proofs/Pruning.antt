@@ -6,30 +6,29 @@
 --   hopeless-set, hopeless-all, all-hopeless, all-few     the test by its parts; unite-is, unite-room, rest-room: the mask of all columns as it is made
 use Prim.Native.Nat.{ℕ, _+_, _-_, _*_, _^_, _≤_, _<_}
 use native.Mathlib.Omega.{arith}
-use mathlib.Core.Path.{_≡_, refl, sym, ap, ap₂, _∙_, subst}
+use mathlib.Core.Path.{_≡_, sym, ap, ap₂, _∙_, subst}
 use mathlib.Core.Logic.{_⊎_, inl, inr, ⊎-elim}
 use mathlib.Core.Bool.{Bool, true, false, not, _||_}
 use mathlib.Core.List.{List, [], _∷_}
-use lib.ListN.{length, take, drop}
+use lib.ListN.{length, take}
 use lib.Dec.{T, ltb, leb, leb→le}
 use lib.Seq.{length-take-le}
 use lib.Ieee.{Float}
 use borrow.Author.Tests.{le-leb, lt-leb}
 use Rattle.order.specs.Order.{smaller}
-use Rattle.order.specs.Counting.{count, all}
+use Rattle.order.specs.Counting.{all}
 use Rattle.order.specs.Lists.{rowsOf}
-use Rattle.order.proofs.Booleans.{T-true, and-left, and-right, or-right}
+use Rattle.order.proofs.Booleans.{T-true, or-right}
 use Rattle.order.proofs.Infinities.{finite-low}
 use Rattle.order.proofs.Lists.{rowsOf-length}
 use Rattle.order.proofs.Rows.{Sound, rowsOf-sound}
-use Rattle.columns.specs.Columns.{Columns, size, _∪_, columnsOf, maskOf}
+use Rattle.columns.specs.Columns.{Columns, size, columnsOf}
 use Rattle.columns.proofs.Masks.{columnsOf-length, maskOf-columnsOf}
 use Rattle.method.specs.Method.{criticalValue}
 use Rattle.method.proofs.Critical.{criticalValue-finite}
-use Rattle.method.proofs.Exceeding.{exceeds, exceed-yes, exceed-not}
+use Rattle.method.proofs.Exceeding.{exceed-yes, exceed-not}
 use Rattle.masks.specs.Marks.{passes, holding, holdingColumns, rowsKept, marksAt}
 use Rattle.masks.proofs.Marks.{holding-columns, holding-more, holding-fewer}
-use Rattle.critical.specs.Internal.{Marked}
 use Rattle.critical.specs.declared.Figures.{Figures}
 use Rattle.critical.proofs.Raising.{marked-inside, marked-columns, marked-count, marked-again}
 use Rattle.putback.specs.Internal.{best, better, setsOf, unite, hopelessIn, At, Going}

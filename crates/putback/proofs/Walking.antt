@@ -1,7 +1,7 @@
 -- The walk's cases, by the best of the sets of a branch.
 --   leaf-value, none-value, past-value, in-value     nothing left to choose, or to choose from; the next column is not among the rejected ones; it is
 --   past-at, in-at       what holds of the next branches
-use Prim.Native.Nat.{ℕ, _+_, _/_, _%_, _^_, _≤_, _<_}
+use Prim.Native.Nat.{ℕ, _%_, _<_}
 use native.Mathlib.Omega.{arith}
 use mathlib.Core.Path.{_≡_, sym, ap, ap₂, _∙_, subst}
 use mathlib.Core.List.{[], _∷_}

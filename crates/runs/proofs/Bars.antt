@@ -260,11 +260,10 @@ module _ (X : List (List Float)) where
               (subst (λ (n : ℕ). SetBy n (r .e) X (stepSets n (liveSet r) (rejectedSet r) (r .steps)) (recordOf X r)) (kept .k-same) (set-by X r (told-at .0))))),
         )
 
-    -- its offer is one of the columns, and live; its row is one of the rows
-    pub record-offer : (d : Record) → let m = getD (fullRun X s .records) i d in (m .row < length X) × (0 < m .offer) × (m .offer ≤ s .columns) × T (has (liveSet s) (m .offer - 1))
+    -- its offer is one of the columns, and live
+    pub record-offer : (d : Record) → let m = getD (fullRun X s .records) i d in (m .offer ≤ s .columns) × T (has (liveSet s) (m .offer - 1))
     unfolding recordOf
     record-offer d =
         let r = after i X s in
-        let o = offer-told X r (told-at .0) in
-        subst (λ (m : Record). (m .row < length X) × (0 < m .offer) × (m .offer ≤ s .columns) × T (has (liveSet s) (m .offer - 1))) (sym (record-told d))
-        (row-below X r (told-at .0), omega (arith, o .0), omega (arith, offer-most X r (told-at .0), kept .columns-same), subst (λ (K : Columns). T (has K (barOfferOf X r - 1))) (kept .live-same) (o .1))
+        subst (λ (m : Record). (m .offer ≤ s .columns) × T (has (liveSet s) (m .offer - 1))) (sym (record-told d))
+        (omega (arith, offer-most X r (told-at .0), kept .columns-same), subst (λ (K : Columns). T (has K (barOfferOf X r - 1))) (kept .live-same) (offer-told X r (told-at .0) .1))

@@ -44,13 +44,14 @@ module _ (t : Trial) (acc : Accepted t) (X : List (List Float)) (sound : Sound (
 
     pub trial-offer : Remaining t (getD (fullRun X (trialStart t) .records) i d)
     trial-offer =
+        let b = trial-set-by .1 in
         let o = record-offer X (trialStart t) refl trial-ready i h d in
         let j = getD (fullRun X (trialStart t) .records) i d .offer - 1 in
-        let l : j < t .shape .offers = omega (arith, o .1, o .2) in record {
-          row-below = omega (arith, o .0, tall);
-          offer-some = o .1;
-          offer-most = o .2;
-          tested = not-T (untested (t .shape .design) (figuresAt t j)) (subst (λ (b : Bool). T b) (has-columnsOf (t .shape .offers) (liveMask t) j l ∙ live-bit t j l) (o .3));
+        let l : j < t .shape .offers = omega (arith, b .offer-some, o .0) in record {
+          row-below = omega (arith, b .row-below, tall);
+          offer-some = b .offer-some;
+          offer-most = o .0;
+          tested = not-T (untested (t .shape .design) (figuresAt t j)) (subst (λ (b : Bool). T b) (has-columnsOf (t .shape .offers) (liveMask t) j l ∙ live-bit t j l) (o .1));
         }
 
 -- ---- the plain run
