@@ -33,16 +33,17 @@ use Rattle.trial.specs.Exchange.{rowTotal, rowOf, trialRows}
 use Rattle.trial.specs.Refusals.{trialRefusal}
 use Rattle.trial.specs.declared.Trial.{Trial}
 use Rattle.trial.proofs.Accepted.{Accepted, accepted}
-use Rattle.trial.proofs.Tables.{rowOf-all, trialRows-length, trialRows-sound}
+use Rattle.trial.proofs.Tables.{rowOf-all, trialRows-length}
 use Rattle.words.specs.Words.{wordsOf}
 use Rattle.trialfile.specs.Files.{trialOf, fileChecks, fileRefusal}
 use Rattle.trialfile.proofs.Taken.{read-accepted}
 use Rattle.trialfile.proofs.Inputs.{digits-few}
 use Rattle.balance.specs.Balance.{balancedRows}
-use Rattle.balance.proofs.Balanced.{balanced-all, balanced-sound, balancedRows-length}
+use Rattle.balance.proofs.Balanced.{balanced-all}
 use Rattle.trialrun.specs.TrialRuns.{trialStart, trialRun}
-use Rattle.trialrun.proofs.Bars.{trial-offer}
+use Rattle.trialrun.proofs.Bars.{plain-offer}
 use Rattle.trialbalance.specs.TrialBalance.{trialBalancedRun}
+use Rattle.trialbalance.proofs.Calls.{balanced-offer}
 use Rattle.trialrun.specs.FileRuns.{refusedFile, acceptedBy, fileBy}
 use Rattle.trialrun.specs.declared.FileRun.{FileRun}
 use Rattle.text.specs.Text.{cents}
@@ -114,17 +115,13 @@ PrintableRun run = (t : Trial) → trialRefusal t ≡ 0 → Printable (t .shape 
 
 pub plain-printable : PrintableRun trialRun
 unfolding trialRun
-plain-printable t h =
-    let acc = accepted t h in
-    run-printable (trialRows t) (trialStart t) (rows-whole t acc) (t .shape .offers) (λ i l d. let o = trial-offer t acc (trialRows t) (trialRows-sound t acc) (trialRows-length t) i l d in (o .offer-some, o .offer-most))
+plain-printable t h = run-printable (trialRows t) (trialStart t) (rows-whole t (accepted t h)) (t .shape .offers) (λ i l d. let o = plain-offer t h i l d in (o .offer-some, o .offer-most))
 
 pub balanced-printable : PrintableRun trialBalancedRun
 unfolding trialBalancedRun
-balanced-printable t h =
-    let acc = accepted t h in
-    run-printable (balancedRows (trialRows t)) (trialStart t)
-    (balanced-all (trialRows t) wholeCents (λ m l. ofInt-whole (pos m) (omega (arith, trialRows-length t, rows-few t acc)))) (t .shape .offers)
-    (λ i l d. let o = trial-offer t acc (balancedRows (trialRows t)) (balanced-sound (t .shape .offers) (trialRows t) (trialRows-sound t acc) (omega (arith, trialRows-length t, rows-few t acc))) (balancedRows-length (trialRows t) ∙ trialRows-length t) i l d in (o .offer-some, o .offer-most))
+balanced-printable t h = run-printable (balancedRows (trialRows t)) (trialStart t)
+    (balanced-all (trialRows t) wholeCents (λ m l. ofInt-whole (pos m) (omega (arith, trialRows-length t, rows-few t (accepted t h))))) (t .shape .offers)
+    (λ i l d. let o = balanced-offer t h i l d in (o .offer-some, o .offer-most))
 
 -- the printed number is the critical value: nothing is cut off
 module _ (run : Trial → Outcome) (p : PrintableRun run) where

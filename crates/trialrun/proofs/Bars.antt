@@ -1,5 +1,5 @@
 -- Who set the critical values of a trial's full run (document 02, §5), over the rows X: those of its table, or of its balanced one.
---   trial-ready        what holds before step 1
+--   some-row, few-rows, trial-ready     what holds before step 1: there is a row, and e is less than their number
 --   trial-set-by       what each record tells is true
 --   trial-offer        its row is one of the rows, and its offer one of the trial's that is not set aside
 --   plain-set-by, plain-offer     both, of the plain run
@@ -32,11 +32,14 @@ use Rattle.trialrun.specs.TrialRuns.{trialStart, trialRun}
 use Rattle.trialrun.specs.Bars.{Remaining}
 
 module _ (t : Trial) (acc : Accepted t) (X : List (List Float)) (sound : Sound (t .shape .offers) X) (tall : length X ≡ rowTotal t) where
+  pub some-row : 0 < length X
+  some-row = omega (arith, tall, rowTotal-some t)
+
+  pub few-rows : allowance (rowTotal t) (t .level .a) (t .level .b) < length X
+  few-rows = omega (arith, tall, allowance-lt (rowTotal t) (t .level .a) (t .level .b) (rowTotal-some t) (acc .levelled .proper))
+
   pub trial-ready : trialStart t .ended ≡ false → Ready X (trialStart t)
-  trial-ready on =
-      let e = allowance (rowTotal t) (t .level .a) (t .level .b) in
-      ready-first X (rowTotal t) (t .shape .offers) (t .shape .k) e 0 (liveMask t) sound (omega (arith, tall, rowTotal-some t)) (acc .k-some)
-      (omega (arith, tall, allowance-lt (rowTotal t) (t .level .a) (t .level .b) (rowTotal-some t) (acc .levelled .proper))) on
+  trial-ready on = ready-first X (rowTotal t) (t .shape .offers) (t .shape .k) (allowance (rowTotal t) (t .level .a) (t .level .b)) 0 (liveMask t) sound some-row (acc .k-some) few-rows on
 
   module _ (i : ℕ) (h : i < length (fullRun X (trialStart t) .records)) (d : Record) where
     pub trial-set-by : RecordSetBy X (trialStart t) i (getD (fullRun X (trialStart t) .records) i d)

@@ -12,7 +12,6 @@ use lib.Ieee.{Float}
 use Rattle.order.specs.Lists.{rowsOf, joined}
 use Rattle.order.proofs.Rows.{Sound}
 use Rattle.refusals.specs.Limits.{allowance}
-use Rattle.refusals.proofs.Limits.{allowance-lt}
 use Rattle.columns.specs.Columns.{Columns, size, within}
 use Rattle.columns.proofs.Sets.{size-length}
 use Rattle.runs.specs.Stepdown.{Outcome, fullRun}
@@ -25,8 +24,9 @@ use Rattle.trial.specs.Refusals.{trialRefusal}
 use Rattle.trial.specs.declared.Trial.{Trial}
 use Rattle.trial.proofs.Accepted.{Accepted, accepted}
 use Rattle.trial.proofs.Aside.{live-length, live-columns}
-use Rattle.trial.proofs.Tables.{trialRows-length, trialRows-sound, rowTotal-some}
+use Rattle.trial.proofs.Tables.{trialRows-length, trialRows-sound}
 use Rattle.trialrun.specs.TrialRuns.{trialStart, trialRun}
+use Rattle.trialrun.proofs.Bars.{some-row, few-rows}
 use Rattle.trialrun.proofs.Runs.{rows-again, joined-is, rows-accepted}
 
 module _ (t : Trial) where
@@ -38,10 +38,7 @@ module _ (t : Trial) where
 
   module _ (acc : Accepted t) (X : List (List Float)) (sound : Sound (t .shape .offers) X) (tall : length X ≡ rowTotal t) where
     some : 0 < length X
-    some = omega (arith, tall, rowTotal-some t)
-
-    rare : allowance (rowTotal t) (t .level .a) (t .level .b) < length X
-    rare = omega (arith, tall, allowance-lt (rowTotal t) (t .level .a) (t .level .b) (rowTotal-some t) (acc .levelled .proper))
+    some = some-row t acc X sound tall
 
     abbrev alone : Columns → Outcome
     alone L = fullRun (map (within L) X) (tableStart (rowTotal t) (size L) (t .shape .k) (t .level .a) (t .level .b) 0)
@@ -53,7 +50,7 @@ module _ (t : Trial) where
     run-without =
         let e = allowance (rowTotal t) (t .level .a) (t .level .b) in
         record {
-          records = subst (λ (L : Columns). full .records ≡ map (counted L) (alone L .records)) (live-columns t) (records-without X (rowTotal t) (t .shape .offers) (t .shape .k) e 0 (liveMask t) sound some (acc .k-some) rare);
+          records = subst (λ (L : Columns). full .records ≡ map (counted L) (alone L .records)) (live-columns t) (records-without X (rowTotal t) (t .shape .offers) (t .shape .k) e 0 (liveMask t) sound some (acc .k-some) (few-rows t acc X sound tall));
           verdicts = subst (λ (L : Columns). within L (full .verdicts) ≡ alone L .verdicts) (live-columns t) (verdicts-without X (rowTotal t) (t .shape .offers) (t .shape .k) e 0 (liveMask t) sound some);
           counts = subst (λ (L : Columns). within L (full .counts) ≡ alone L .counts) (live-columns t) (counts-without X (rowTotal t) (t .shape .offers) (t .shape .k) e 0 (liveMask t) sound some);
         }
