@@ -17,16 +17,17 @@
  *    1  the file is empty, its length is not a multiple of 4 bytes, or it is above BECARDLARDER_LONGEST_FILE
  *    2  a word of the file is missing, or of another kind than its place needs
  *    3  level a/b: a or b is zero, a is not below b, or b is above 16383
- *    4  a count or k is outside its range, or k is above the offers (columns); in a file also: bits 27-24 of the shape are
- *       not zero
+ *    4  a count or k is outside its range, or k is above the offers (columns); in a file of pairs also: bits 27-24 of the
+ *       shape are not zero
  *    5  printed digits outside 1 to 7, or an offer's number has more digits than that
  *    6  an offer's number equals an earlier offer's
- *    7  a difference is outside -134217727 to 134217727
+ *    7  a difference, or a shop's figure, is outside -134217727 to 134217727
  *    8  the count in the end word is wrong, or words stand after it
  *    9  the table's length is not rows times columns
  *   10  the observed row is not below rows
  *   11  a value of the table is infinite or no number
  *   12  a buffer is too short
+ *   15  of shops without partners: not 2 to 10 shops, or not 1 to all but one of them treated
  *
  * Where several hold, the order that stands at each function decides.
  */
@@ -47,7 +48,7 @@ extern "C" {
 #define BECARDLARDER_ASIDE 255
 
 /* The longest trial file, in bytes, and the most offers that it can have. */
-#define BECARDLARDER_LONGEST_FILE 652
+#define BECARDLARDER_LONGEST_FILE 716
 #define BECARDLARDER_MOST_OFFERS 16
 
 /* The most rows and columns of a table. */
@@ -55,16 +56,17 @@ extern "C" {
 #define BECARDLARDER_MOST_COLUMNS 32
 
 /*
- * Reads a trial file and runs its trial. An offer with difference 0 in every pair has not been tested: it is set aside
- * before step 1 and takes no part. Where fewer than k offers remain no step is run, and each of them is kept.
+ * Reads a trial file and runs its trial, of pairs or of shops without partners. An offer with difference 0 in every pair,
+ * or with equal figures in all shops, has not been tested: it is set aside before step 1 and takes no part. Where fewer
+ * than k offers remain no step is run, and each of them is kept.
  *
  * Returns the number of rejected offers. verdicts[i] is then the step that rejected offer i (in file order, from 0), from
  * 1 to 32, or 0 where the offer is kept, or BECARDLARDER_ASIDE where it is set aside; bytes beyond the offers are
  * unchanged. The buffer needs a byte for each offer, those set aside too: BECARDLARDER_MOST_OFFERS bytes are always
  * enough.
  *
- * Refusals: 1, then word by word from the start, the kind (2) before the value: 3, 4, at each offer 5 and 6, 7, 8. A
- * buffer too short (12) comes last. Where the call is refused the buffer is unchanged.
+ * Refusals: 1, then word by word from the start, the kind (2) before the value: 3, 4 and 15, at each offer 5 and 6, 7, 8.
+ * A buffer too short (12) comes last. Where the call is refused the buffer is unchanged.
  *
  * Stack: about 110 KB, and less than 120 KB.
  */
@@ -147,7 +149,7 @@ uint32_t becardlarder_table_balanced(const double *table, size_t table_len, size
 
 /*
  * Reads a trial file and runs the balanced table of its trial, in which offers of small and of large sums weigh the same.
- * Offers are set aside as for becardlarder_trial_verdicts, by their differences.
+ * Offers are set aside as for becardlarder_trial_verdicts, by their differences or figures.
  *
  * Returns the number of rejected offers; verdicts[i] is then as for becardlarder_trial_verdicts, but of the balanced run,
  * and bytes beyond the offers are unchanged. BECARDLARDER_MOST_OFFERS bytes are always enough.

@@ -19,9 +19,10 @@ static const char *reason(uint32_t refusal)
     case 4: return "a count or k is outside its range";
     case 5: return "an offer's number does not fit its printed digits";
     case 6: return "two offers have the same number";
-    case 7: return "a difference is outside its range";
+    case 7: return "a difference, or a shop's figure, is outside its range";
     case 8: return "the end word's count is wrong, or words stand after it";
     case 12: return "the buffer has no byte for each offer";
+    case 15: return "not 2 to 10 shops, or not 1 to all but one of them treated";
     default: return "unknown refusal";
     }
 }
@@ -33,10 +34,17 @@ static uint32_t word(const uint8_t *file, size_t i)
     return b[0] | (uint32_t)b[1] << 8 | (uint32_t)b[2] << 16 | (uint32_t)b[3] << 24;
 }
 
-/* The verdict of each offer. An accepted file has its number of offers in word 1, and the offers from word 2 on. */
+/* The offers of an accepted file, by its word 1, which is of kind 5 where the trial is one of shops without partners. */
+static unsigned offers_of(const uint8_t *file)
+{
+    uint32_t shape = word(file, 1);
+    return shape >> (shape >> 28 == 5 ? 16 : 8) & 0xFF;
+}
+
+/* The verdict of each offer. An accepted file has the offers from word 2 on. */
 static void print_verdicts(const uint8_t *file, const uint8_t *verdicts)
 {
-    unsigned offers = word(file, 1) >> 8 & 0xFF;
+    unsigned offers = offers_of(file);
     for (unsigned i = 0; i < offers; i++) {
         uint32_t offer = word(file, 2 + i);
         int digits = offer >> 24 & 0xF;

@@ -8,18 +8,19 @@ zero is 800000). Lent buffers are told whole. A report is printed as it is, afte
 from functools import singledispatch
 
 from expected import expected
-from frames import value_number
+from frames import shape_numbers, value_number
 from generators.kinds import (BalancedRunCase, FileCase, LookCase, RecordCase, StepCase, TableCase,
                               WalkCase)
 from reference.ccall import verdict_byte
+from reference.designs import Paired
 from reference.method import Record
 from reference.refusals import Refused
 from reference.table import Aside, Kept
-from reference.trial import Trial
+from reference.trial import CODE_PLACES, FIGURE_PLACES, Trial
 from reference.view import OUTSIDE
 
 PLACES = 32  # of the lists of a full run
-BLANK_TRIAL = Trial(0, 0, 0, 0, 0, (0,) * 16, (0,) * 16, (0,) * 144)
+BLANK_TRIAL = Trial(0, 0, 0, 0, Paired(0), (0,) * CODE_PLACES, (0,) * CODE_PLACES, (0,) * FIGURE_PLACES)
 PRIME = 2 ** 31 - 1
 
 
@@ -128,10 +129,9 @@ def figures(run) -> tuple:
 
 
 def trial_numbers(trial: Trial) -> list:
-    """Level, k, offers, pairs; each code and its printed digits; the differences, 2^31 added."""
-    return [trial.a, trial.b, trial.k, trial.offers, trial.pairs,
-            *(n for offer in zip(trial.codes, trial.digits) for n in offer),
-            *(d + 2 ** 31 for d in trial.differences)]
+    """Level, k, offers, design; each code and its printed digits; the figures, 2^31 added."""
+    return [*shape_numbers(trial), *(n for offer in zip(trial.codes, trial.digits) for n in offer),
+            *(figure + 2 ** 31 for figure in trial.figures)]
 
 
 def run_numbers(answer) -> list:

@@ -5,10 +5,10 @@ the kind; the rooms of the byte buffer, the table and the work buffer that are l
 
 kind 1  the seed
 kind 2  a file: its length, then its bytes as they are
-kind 3  a record: 16 times a code and its printed digits; a, b, k, offers, pairs; how many
-        differences are told (the others are zero) and those, each with 2^31 added;
-        what the table holds before the table call, and before the full run; what the table and
-        the work buffer hold before the balanced run
+kind 3  a record: 16 times a code and its printed digits; a, b, k, offers; the kind of its shape
+        word, pairs or shops, treated, which is 0 for pairs; how many figures are told (the others
+        are zero) and those, each with 2^31 added; what the table holds before the table call, and
+        before the full run; what the table and the work buffer hold before the balanced run
 kind 4  a full run of a table; kind 5 a beginning; kind 6 the steps of a run as it is given: the
         table; rows, columns, k, a, b, observed, rejected, steps, ended; 1 for a view, else 0
 kind 7  a place: the table; rows, columns, row, column
@@ -42,6 +42,12 @@ def value_number(value: float) -> int:
     """A value as a number."""
     bits = int.from_bytes(struct.pack(">d", value), "big") if value == value else 0x7FF8 << 48
     return bits % 2 ** 40 << 24 | bits >> 40
+
+
+def shape_numbers(trial) -> tuple:
+    """Level, k, offers; the design by the kind of its shape word and its two counts."""
+    design = trial.design
+    return trial.a, trial.b, trial.k, trial.offers, design.KIND, design.units, design.treated
 
 
 def lent(kind: int, bytes_room=0, table_room=0, work_room=0) -> bytes:
@@ -79,13 +85,13 @@ def _(case: FileCase) -> bytes:
 @frame.register
 def _(case: RecordCase) -> bytes:
     t = case.trial
-    told = max((i + 1 for i, d in enumerate(t.differences) if d), default=0)
+    told = max((i + 1 for i, figure in enumerate(t.figures) if figure), default=0)
     marks, work_marks = (table(Repeated((), (float(MARK),), room))
                          for room in (case.table_room, case.work_room))
     return (lent(3, case.file_room, case.table_room, case.work_room)
             + numbers(*(n for offer in zip(t.codes, t.digits) for n in offer))
-            + numbers(t.a, t.b, t.k, t.offers, t.pairs)
-            + numbers(told, *(d + 2 ** 31 for d in t.differences[:told]))
+            + numbers(*shape_numbers(t))
+            + numbers(told, *(figure + 2 ** 31 for figure in t.figures[:told]))
             + 3 * marks + work_marks)
 
 

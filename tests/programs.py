@@ -21,12 +21,13 @@ import tty
 
 import cases
 from commands import rt
+from generators.files import FULL_SHOPS
+from reference.trialfile import LONGEST
 
 ROOT = pathlib.Path(__file__).resolve().parent.parent
-LONGEST = 652
 SECONDS = 20  # a program that has not ended by then is taken for one that never will
 WAIT = 0.3  # long enough for a program that does not wait to have ended
-W, ASIDE = ((ROOT / "samples" / f"{name}.trial").read_bytes() for name in ("w", "aside"))
+W, ASIDE, SHOPS = ((ROOT / "samples" / f"{name}.trial").read_bytes() for name in ("w", "aside", "shops"))
 
 
 def prove(name: str):
@@ -84,10 +85,17 @@ class Inputs(Program):
         self.assertEqual(self.printed(bytes(range(256))), "refused 2\n")
 
     def test_one_word_more_than_the_longest_file(self):
+        self.assertEqual(len(FULL_SHOPS), LONGEST)
+        self.assertEqual(self.printed(FULL_SHOPS), self.text(FULL_SHOPS))
+        self.assertEqual(self.printed(FULL_SHOPS + bytes(4)), "refused 1\n")
+        self.assertEqual(self.printed(FULL_SHOPS + bytes(1)), "refused 1\n")
+
+    def test_the_longest_file_of_pairs(self):
+        """Words after its end, until the bytes are too many for any file."""
         longest = (ROOT / "samples" / "full.trial").read_bytes()
-        self.assertEqual(len(longest), LONGEST)
-        self.assertEqual(self.printed(longest + bytes(4)), "refused 1\n")
-        self.assertEqual(self.printed(longest + bytes(1)), "refused 1\n")
+        for length in (len(longest) + 4, LONGEST):
+            self.assertEqual(self.printed(longest.ljust(length, b"\0")), "refused 8\n")
+        self.assertEqual(self.printed(longest.ljust(LONGEST + 4, b"\0")), "refused 1\n")
 
     def test_an_endless_stream(self):
         with open("/dev/zero", "rb") as zeros:

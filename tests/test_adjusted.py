@@ -21,6 +21,9 @@ class Samples(Adjusted, programs.Samples, unittest.TestCase):
     def test_aside(self):
         self.assertEqual(self.printed(programs.ASIDE), "0042 1\n7 3\n04711 8\nend 8\n")
 
+    def test_shops(self):
+        self.assertEqual(self.printed(programs.SHOPS), "2301 1\n0088 14\n4105 20\nend 20\n")
+
 
 class Inputs(Adjusted, programs.Inputs, unittest.TestCase):
     share = 7  # more than of the report, whose text is compared elsewhere too

@@ -1,16 +1,17 @@
-"""Offers that never sold (document 02, §4): the reference on examples, and what must hold always."""
+"""Offers that have not been tested (document 02, §4 and §6): the reference on examples, and what must hold always."""
 
 import random
 import unittest
 from dataclasses import replace
 
-from generators.aside import cancelling, some_aside_trial
+from generators.aside import some_aside_shop_trial, some_aside_trial
+from generators.designs import cancelling, some_paired, some_unpaired, untested
 from generators.examples import ASIDE
 from reference import adjusted, balanced, ccall, method, report, sheet, table, trial, trialfile
 from reference.method import Record
 from reference.refusals import Refused
 from reference.table import Aside, Kept, Rejected
-from test_reference import idle_rejected, is_plus_zero, subsets
+from test_reference import idle_rejected, is_plus_zero, run_g, subsets
 
 BOTH = ((trial.full_run, report.report, ccall.on_file),
         (balanced.trial_run, balanced.report, ccall.balanced_on_file))
@@ -23,8 +24,8 @@ def report_of(name) -> str:
 def without(one, offers):
     """The trial with these offers removed."""
     kept = [i for i in range(one.offers) if i not in offers]
-    listed = [(str(one.codes[i]).zfill(one.digits[i]), trial.differences_of(one, i)) for i in kept]
-    return trial.make_trial((one.a, one.b), one.k, listed)
+    listed = [(str(one.codes[i]).zfill(one.digits[i]), trial.offer_figures(one, i)) for i in kept]
+    return replace(trial.make_trial((one.a, one.b), one.k, listed), design=one.design)
 
 
 class Examples(unittest.TestCase):
@@ -140,9 +141,12 @@ class Examples(unittest.TestCase):
 
 
 class Properties(unittest.TestCase):
-    def trials(self, name, how_many, most_offers=8, most_pairs=4):
+    def trials(self, name, how_many, most_offers=8, most_units=4):
+        """So many of pairs, and half as many of shops."""
         rng = random.Random(f"aside, {name}")
-        return (some_aside_trial(rng, most_offers, most_pairs) for _ in range(how_many))
+        for number in range(how_many * 3 // 2):
+            drawn = some_aside_shop_trial if number % 3 == 2 else some_aside_trial
+            yield drawn(rng, most_offers, most_units)
 
     def test_the_offers_removed(self):
         """Without the lines of the offers set aside the report is that of the trial without these offers."""
@@ -168,13 +172,13 @@ class Properties(unittest.TestCase):
         self.assertGreater(min(compared, few), 200)
 
     def test_verdicts(self):
-        """Set aside exactly where every difference is 0, with count 0; all other counts are those of the table."""
+        """Set aside exactly where every entry is 0, with count 0; all other counts are those of the table."""
         for one in self.trials("verdicts", 400):
             left, columns = trial.remaining(one), method.columns_of(trial.table_of(one), one.offers)
             for run_of, _, _ in BOTH:
                 full = run_of(one)
                 for i, (verdict, count) in enumerate(zip(full.verdicts, full.counts, strict=True)):
-                    unsold = set(trial.differences_of(one, i)) == {0}
+                    unsold = set(columns[i]) == {0.0}
                     self.assertEqual((verdict == Aside(), i not in left), (unsold, unsold))
                     self.assertEqual(count, 0 if unsold else method.count(columns[i], 0))
 
@@ -204,44 +208,32 @@ class Properties(unittest.TestCase):
 
     def test_cancelling_differences_remain(self):
         rng = random.Random("aside, cancelling")
-        for _ in range(300):
-            pairs = rng.randint(2, 9)
-            cents = cancelling(rng, pairs)
-            one = trial.make_trial((1, 2), 1, [("1", cents), ("2", [0] * pairs)])
-            self.assertEqual((sum(cents), trial.trial_refusal(one)), (0, None))
+        for number in range(300):
+            design = some_unpaired(rng, 7, 3) if number % 3 == 0 else some_paired(rng, 9, 2)
+            cents = cancelling(design, rng)
+            one = trial.make_trial((1, 2), 1, [("1", cents), ("2", untested(design, rng))])
+            one = replace(one, design=design)
+            self.assertEqual((design.entry(cents, 0), trial.trial_refusal(one)), (0, None))
             self.assertEqual(trial.remaining(one), [0])
             self.assertNotIn(Aside(), trial.full_run(one).verdicts[:1])
 
     def test_demand_3(self):
-        """At most e of the 2^n runs reject k or more idle offers, plain or balanced.
+        """At most e of the M runs reject k or more idle offers, plain or balanced.
 
         Idle offers may be set aside, and are so in every run; the others are set aside in some runs.
         """
         rng, met = random.Random("aside, demand 3"), 0
-        for _ in range(60):
-            one = some_aside_trial(rng, 4, 3)
+        for number in range(80):
+            one = some_aside_shop_trial(rng, 4, 4) if number % 4 == 0 else some_aside_trial(rng, 4, 3)
             rows, left = trial.rows_of(one), set(trial.remaining(one))
             for idle in subsets(one.offers):
-                runs = [run_g(rng, one, idle, g) for g in range(rows)]
+                runs = [run_g(rng, one, idle, g, ((0,), (-3, 0, 1, 2, 134_217_727))) for g in range(rows)]
                 varies = len({tuple(trial.remaining(run)) for run in runs}) > 1
                 for run_of, _, _ in BOTH:
                     bad = sum(idle_rejected(run_of(run), idle) >= one.k for run in runs)
                     self.assertLessEqual(bad, method.level_rows(rows, one.a, one.b))
                     met += bad > 0 and varies and not idle <= left
         self.assertGreater(met, 20)
-
-
-def run_g(rng, one, idle, g):
-    """Run g's own trial: idle differences exchanged by g, those of every other offer new, at times all 0."""
-    differences = []
-    for i in range(one.offers):
-        if i in idle:
-            differences += [-cent if g >> j & 1 else cent
-                            for j, cent in enumerate(trial.differences_of(one, i))]
-        else:
-            choice = rng.choice(((0,), (-3, 0, 1, 2, 134_217_727)))
-            differences += [rng.choice(choice) for _ in range(one.pairs)]
-    return replace(one, differences=trial.padded(differences, trial.DIFFERENCE_PLACES))
 
 
 if __name__ == "__main__":

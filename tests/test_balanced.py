@@ -26,6 +26,11 @@ class Samples(Balanced, programs.Samples, unittest.TestCase):
                          "trial 3 3 1 2 8\nstep 1 7 6 7\nstep 2 7 0 7\n0042 rejected 1 1\n7 kept 2 3\n"
                          "04711 aside 0 0\nend 1\n")
 
+    def test_shops(self):
+        self.assertEqual(self.printed(programs.SHOPS),
+                         "trial 6 3 1 2 20\nstep 1 19 1 0088\nstep 2 18 3 0088\n2301 rejected 1 1\n"
+                         "0088 kept 2 14\n4105 aside 0 0\nend 1\n")
+
     def test_milk_and_saffron(self):
         data = (programs.ROOT / "samples" / "saffron.trial").read_bytes()
         self.assertEqual(self.printed(data), "trial 3 2 1 2 8\nstep 1 7 4 0907\nstep 2 6 0 4011\n"

@@ -211,7 +211,7 @@ class Properties(unittest.TestCase):
             for step in of_table(case):
                 self.check(step)
         for case in cases_of("record"):
-            if trial.trial_refusal(case.trial) is None and case.trial.pairs <= 4:
+            if trial.trial_refusal(case.trial) is None and trial.rows_of(case.trial) <= 16:
                 for step in of_trial(case.trial):
                     self.check(step)
 
@@ -219,7 +219,7 @@ class Properties(unittest.TestCase):
         """A step line ends in the record's row and the printed code of its offer."""
         for case in every_case_of("bar_file"):
             one = trialfile.read(case.data)
-            for run_of, text_of in BOTH if one.pairs <= 5 else ():
+            for run_of, text_of in BOTH if trial.rows_of(one) <= 32 else ():
                 codes = [str(code).zfill(digits) for code, digits in zip(one.codes, one.digits)]
                 lines = [line.split() for line in text_of(case.data).splitlines() if line.startswith("step ")]
                 self.assertEqual(lines, [["step", str(r.step), str(int(r.critical_value)), str(r.row),

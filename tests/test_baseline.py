@@ -11,6 +11,7 @@ import random
 import subprocess
 import tempfile
 import unittest
+from contextlib import contextmanager, nullcontext
 from ctypes import (CDLL, POINTER, Structure, byref, c_double, c_int, c_int32, c_size_t, c_uint8,
                     c_uint32)
 from itertools import chain, product
@@ -18,11 +19,12 @@ from pathlib import Path
 
 from cases import SEED, cases_of, every_case_of, every_table_case
 from expected import MARK
+from frames import shape_numbers
 from generators.kinds import BalancedCase, TableCase
 from generators.tables import neighbours, normal, rounded, signed_zeros, ties
 from reference import ccall, report, table, trialfile
 from reference.refusals import Refused
-from reference.trial import Trial, full_run, rows_of, table_of
+from reference.trial import FIGURE_PLACES, Trial, full_run, rows_of, table_of
 
 HERE = Path(__file__).resolve().parent
 FLAGS = ("-std=c11", "-Wall", "-Wextra", "-Werror", "-O3", "-shared", "-fPIC")
@@ -67,18 +69,19 @@ class CTrial(Structure):
     """struct trial"""
 
     _fields_ = [("a", c_size_t), ("b", c_size_t), ("k", c_size_t), ("offers", c_size_t),
-                ("pairs", c_size_t), ("codes", c_uint32 * 16), ("digits", c_uint8 * 16),
-                ("differences", c_int32 * 144)]
+                ("kind", c_size_t), ("units", c_size_t), ("treated", c_size_t),
+                ("codes", c_uint32 * 16), ("digits", c_uint8 * 16),
+                ("figures", c_int32 * FIGURE_PLACES)]
 
     @classmethod
     def of(cls, trial: Trial):
-        return cls(trial.a, trial.b, trial.k, trial.offers, trial.pairs,
-                   (c_uint32 * 16)(*trial.codes), (c_uint8 * 16)(*trial.digits),
-                   (c_int32 * 144)(*trial.differences))
+        return cls(*shape_numbers(trial), (c_uint32 * 16)(*trial.codes),
+                   (c_uint8 * 16)(*trial.digits), (c_int32 * FIGURE_PLACES)(*trial.figures))
 
-    def trial(self) -> Trial:
-        return Trial(self.a, self.b, self.k, self.offers, self.pairs, tuple(self.codes),
-                     tuple(self.digits), tuple(self.differences))
+    def parts(self) -> tuple:
+        """All that it holds."""
+        return (self.a, self.b, self.k, self.offers, self.kind, self.units, self.treated,
+                *self.codes, *self.digits, *self.figures)
 
 
 def figures(run: CFullRun):
@@ -95,6 +98,17 @@ def expected_figures(answer):
             [record.row for record in answer.records] + blank,
             [record.offer for record in answer.records] + blank,
             ccall.verdict_bytes(answer).ljust(32, b"\0"), counts, answer.rejected())
+
+
+@contextmanager
+def by_blocks():
+    """Tables of trials are made by blocks of rows, and not entry by entry."""
+    blocks = c_int.in_dll(baseline, "table_by_blocks")
+    blocks.value = 1
+    try:
+        yield
+    finally:
+        blocks.value = 0
 
 
 def marked(kind, room: int):
@@ -206,7 +220,7 @@ class Adjusted(unittest.TestCase):
         """The tables of trials."""
         for case in every_case_of("file"):
             trial = trialfile.read(case.data)
-            if isinstance(trial, Refused) or trial.pairs > 6:
+            if isinstance(trial, Refused) or rows_of(trial) > 70:
                 continue
             rows = rows_of(trial)
             lent = TableCase(case.name, tuple(table_of(trial)), rows, trial.offers, trial.k, 0, 0, 0,
@@ -238,7 +252,7 @@ class Balanced(unittest.TestCase):
         """The tables of trials."""
         for case in every_case_of("file"):
             trial = trialfile.read(case.data)
-            if isinstance(trial, Refused) or trial.pairs > 7:
+            if isinstance(trial, Refused) or rows_of(trial) > 130:
                 continue
             rows = rows_of(trial)
             lent = BalancedCase(case.name, tuple(table_of(trial)), rows, trial.offers, 0)
@@ -250,14 +264,14 @@ class Files(unittest.TestCase):
     def test_reading(self):
         refused = set()
         for case in every_case_of("file"):
-            trial, blank = CTrial(), CTrial().trial()
+            trial = CTrial()
             accepted = baseline.read_trial(case.data, c_size_t(len(case.data)), byref(trial))
             answer = trialfile.read(case.data)
             if isinstance(answer, Refused):
                 refused.add(answer.number)
-            expected = (0, blank) if isinstance(answer, Refused) else (1, answer)
-            self.assertEqual((accepted, trial.trial()), expected, case.name)
-        self.assertEqual(refused, set(range(1, 9)))
+            expected = (0, CTrial()) if isinstance(answer, Refused) else (1, CTrial.of(answer))
+            self.assertEqual((accepted, trial.parts()), (expected[0], expected[1].parts()), case.name)
+        self.assertEqual(refused, {*range(1, 9), 15})
 
     def check_report(self, case, room: int, text):
         """The baseline's report into so many places is the text, or refused."""
@@ -268,14 +282,10 @@ class Files(unittest.TestCase):
         self.assertEqual((accepted, written.value, bytes(lent)),
                          (*expected[:2], expected[2].ljust(room + GUARD, bytes([MARK]))), case.name)
 
-    def test_reports_by_doubling(self):
+    def test_reports_by_blocks(self):
         """The other way to make a trial's table gives the same reports."""
-        doubling = c_int.in_dll(baseline, "table_by_doubling")
-        doubling.value = 1
-        try:
+        with by_blocks():
             self.test_reports()
-        finally:
-            doubling.value = 0
 
     def test_reports(self):
         for case in chain(every_case_of("file"), every_case_of("bar_file")):
@@ -311,7 +321,28 @@ class Records(unittest.TestCase):
             expected = (0, MARK) if isinstance(answer, Refused) else (1, len(answer))
             self.assertEqual((accepted, length.value), expected, case.name)
             self.assertEqual(bytes(lent), bytes(buffer) + bytes([MARK]) * GUARD, case.name)
-        self.assertEqual(refused, {3, 4, 5, 6, 7, 12})
+        self.assertEqual(refused, {3, 4, 5, 6, 7, 12, 15})
+
+    def tables(self, case):
+        """Whether the baseline accepts a record for its table, and the lent places: entry by entry, then by blocks."""
+        for way in (nullcontext, by_blocks):
+            lent = marked(c_double, case.table_room)
+            with way():
+                accepted = baseline.table_of_trial(byref(CTrial.of(case.trial)), lent,
+                                                   c_size_t(case.table_room))
+            yield accepted, [cell.hex() for cell in lent]
+
+    def test_tables(self):
+        refused = set()
+        for case in chain(cases_of("record"), cases_of("bar_record")):
+            cells = [float(MARK)] * case.table_room
+            answer = table_of(case.trial, cells)
+            expected = [cell.hex() for cell in cells + [float(MARK)] * GUARD]
+            for found in self.tables(case):
+                self.assertEqual(found, (not isinstance(answer, Refused), expected), case.name)
+            if isinstance(answer, Refused):
+                refused.add(answer.number)
+        self.assertEqual(refused, {3, 4, 5, 6, 7, 12, 15})
 
     def test_full_runs(self):
         for case in chain(cases_of("record"), cases_of("bar_record")):

@@ -13,8 +13,10 @@ from pathlib import Path
 from cases import cases_of, every_case_of
 from commands import rt, run
 from expected import MARK
+from frames import shape_numbers
 from reference import ccall, report, table, trialfile
 from reference.refusals import Refused
+from reference.trial import FIGURE_PLACES
 
 ROOT = Path(__file__).resolve().parent.parent
 ARCHIVE = ROOT / "target" / "staticlib" / "libbenchcalls.a"
@@ -65,30 +67,30 @@ class Calls(unittest.TestCase):
     def test_reading(self):
         refused = set()
         for case in cases_of("file"):
-            figures, codes, digits = marked(c_size_t, 5), marked(c_uint32, 16), marked(c_uint8, 16)
-            differences = marked(c_int32, 144)
-            found = library.bench_read(case.data, *sizes(len(case.data)), figures, codes, digits,
-                                       differences)
+            shape, codes, digits = marked(c_size_t, 7), marked(c_uint32, 16), marked(c_uint8, 16)
+            figures = marked(c_int32, FIGURE_PLACES)
+            found = library.bench_read(case.data, *sizes(len(case.data)), shape, codes, digits,
+                                       figures)
             self.check(case.name, found, trialfile.read(case.data), (
-                (figures, lambda t: (t.a, t.b, t.k, t.offers, t.pairs)), (codes, lambda t: t.codes),
-                (digits, lambda t: t.digits), (differences, lambda t: t.differences)))
+                (shape, shape_numbers), (codes, lambda t: t.codes), (digits, lambda t: t.digits),
+                (figures, lambda t: t.figures)))
             refused.add(found)
-        self.assertEqual(refused, set(range(9)))
+        self.assertEqual(refused, {*range(9), 15})
 
     def test_writing(self):
         refused = set()
         for case in cases_of("record"):
             t, out, written = case.trial, marked(c_uint8, case.file_room), marked(c_size_t, 1)
             found = library.bench_write(
-                (c_size_t * 5)(t.a, t.b, t.k, t.offers, t.pairs), (c_uint32 * 16)(*t.codes),
-                (c_uint8 * 16)(*t.digits), (c_int32 * 144)(*t.differences), out,
+                (c_size_t * 7)(*shape_numbers(t)), (c_uint32 * 16)(*t.codes),
+                (c_uint8 * 16)(*t.digits), (c_int32 * FIGURE_PLACES)(*t.figures), out,
                 *sizes(case.file_room), written)
             buffer = bytearray([MARK]) * case.file_room
             answer = trialfile.write(t, buffer)
             self.check(case.name, found, answer, ((out, lambda _: buffer),
                                                   (written, lambda file: [len(file)])))
             refused.add(found)
-        self.assertEqual(refused, {0, 3, 4, 5, 6, 7, 12})
+        self.assertEqual(refused, {0, 3, 4, 5, 6, 7, 12, 15})
 
     def test_reports(self):
         for case in chain(cases_of("file"), every_case_of("bar_file")):

@@ -21,7 +21,7 @@ from reference.adjusted import figures_refusal
 from reference.refusals import Refused
 from reference.table import Aside, Rejected, table_refusal
 from reference.trial import full_run
-from reference.trialfile import read
+from reference.trialfile import LONGEST, read
 
 ROOT = Path(__file__).resolve().parent.parent
 LIBRARY = ROOT / "target" / "staticlib" / "libhost.a"
@@ -279,7 +279,7 @@ class Driver(unittest.TestCase):
 
     def test_files(self):
         calls = list(file_calls(b"F", ccall.on_file))
-        self.assertGreaterEqual(results(calls), set(range(17)) | set(range(101, 109)) | {112})
+        self.assertGreaterEqual(results(calls), set(range(17)) | set(range(101, 109)) | {112, 115})
         self.compare(calls, FILE_STACK)
 
     def test_tables(self):
@@ -296,7 +296,7 @@ class Driver(unittest.TestCase):
 
     def test_adjusted_files(self):
         calls = list(file_adjusted_calls())
-        self.assertEqual(results(calls), {0, *range(101, 109), 112})
+        self.assertEqual(results(calls), {0, *range(101, 109), 112, 115})
         self.compare(calls, FILE_ADJUSTED_STACK)
 
     def test_adjusted_tables(self):
@@ -306,7 +306,7 @@ class Driver(unittest.TestCase):
 
     def test_balanced_files(self):
         calls = list(file_calls(b"V", ccall.balanced_on_file))
-        self.assertGreaterEqual(results(calls), set(range(17)) | set(range(101, 109)) | {112})
+        self.assertGreaterEqual(results(calls), set(range(17)) | set(range(101, 109)) | {112, 115})
         self.compare(calls, FILE_BALANCED_STACK)
 
     def test_balanced_tables(self):
@@ -373,12 +373,16 @@ class SampleHost(unittest.TestCase):
         self.assertEqual(self.call(ROOT / "samples" / "aside.trial"),
                          (0, "0042 rejected in step 1\n7 kept\n04711 set aside\nrejected: 1\n", ""))
 
+    def test_shops(self):
+        self.assertEqual(self.call(ROOT / "samples" / "shops.trial"),
+                         (0, "2301 rejected in step 1\n0088 kept\n4105 set aside\nrejected: 1\n", ""))
+
     def test_samples(self):
         for path in sorted((ROOT / "samples").glob("*.trial")):
             self.assertEqual(self.call(path), (0, sample_lines(path.read_bytes()), ""), path)
 
     def test_refused(self):
-        for data in (b"", bytes(656)):
+        for data in (b"", bytes(LONGEST + 4)):
             status, out, message = self.call(data=data)
             self.assertEqual((status, out), (1, ""))
             self.assertTrue(message.startswith("refused 1: "), message)

@@ -11,6 +11,7 @@ from itertools import combinations
 
 from reference import (adjusted, balanced, ccall, method, report, run, sheet, table, trial,
                        trialfile)
+from reference.designs import Paired
 from reference.method import Record
 from reference.refusals import Refused
 from reference.table import Kept, Rejected
@@ -129,18 +130,21 @@ class OtherExamples(unittest.TestCase):
         return trialfile.bytes_of(words + [15 << 28 | len(words)])
 
     def test_pairs_9_and_10(self):
-        self.assertEqual(trialfile.read(self.shaped(1, 9)).pairs, 9)
+        self.assertEqual(trialfile.read(self.shaped(1, 9)).design, Paired(9))
         self.assertEqual(trialfile.read(self.shaped(1, 10)), Refused(4))
 
     def test_offers_16_and_17(self):
         self.assertEqual(trialfile.read(self.shaped(16, 1)).offers, 16)
         self.assertEqual(trialfile.read(self.shaped(17, 1)), Refused(4))
 
-    def test_longest_file(self):
+    def test_longest_file_of_pairs(self):
+        """Up to 716 bytes, the longest file of all, what follows its end is words."""
         longest = self.shaped(16, 9)
         self.assertEqual(len(longest), 652)
         self.assertTrue(report.report(longest).startswith("trial 9 16 1 128 512\n"))
-        self.assertEqual(trialfile.read(longest + bytes(4)), Refused(1))
+        for length in range(656, 717, 4):
+            self.assertEqual(trialfile.read(longest.ljust(length, b"\0")), Refused(8))
+        self.assertEqual(trialfile.read(longest.ljust(720, b"\0")), Refused(1))
         self.assertEqual(trialfile.read(longest[:-4]), Refused(2))
 
     def test_code_9999999(self):
@@ -169,7 +173,7 @@ class Refusals(unittest.TestCase):
         return answer.number if isinstance(answer, Refused) else 0
 
     def test_file(self):
-        for data in (b"", W_FILE[:-1], W_FILE + b"\0", bytes(656)):
+        for data in (b"", W_FILE[:-1], W_FILE + b"\0", bytes(720)):
             self.assertEqual(trialfile.read(data), Refused(1))
         self.assertEqual(self.read_words(w0=0x00004004), 2)
         self.assertEqual(self.read_words(w0=0x10000004), 3)
@@ -189,12 +193,12 @@ class Refusals(unittest.TestCase):
     def test_record(self):
         bad_level = replace(W, a=4)
         self.assertEqual(trial.full_run(bad_level), Refused(3))
-        self.assertEqual(trial.full_run(replace(bad_level, pairs=10)), Refused(4))
+        self.assertEqual(trial.full_run(replace(bad_level, design=Paired(10))), Refused(4))
         self.assertEqual(trial.full_run(replace(W, offers=2 ** 64 - 1)), Refused(4))
         twice = replace(W, codes=(42, 42) + W.codes[2:], digits=(4, 2) + W.digits[2:])
         self.assertEqual(trial.full_run(twice), Refused(6))
         self.assertEqual(trial.full_run(replace(twice, digits=(4, 1) + W.digits[2:])), Refused(5))
-        wide = replace(W, differences=(-134_217_728,) + W.differences[1:])
+        wide = replace(W, figures=(-134_217_728,) + W.figures[1:])
         self.assertEqual(trialfile.write(wide), Refused(7))
 
     def test_table(self):
@@ -367,7 +371,7 @@ class AdjustedFigures(unittest.TestCase):
     def test_trial_refusals(self):
         """A trial is checked as ever, its level too."""
         self.assertEqual(adjusted.trial_figures(replace(W, a=4)), Refused(3))
-        self.assertEqual(adjusted.trial_figures(replace(W, a=4, pairs=10)), Refused(4))
+        self.assertEqual(adjusted.trial_figures(replace(W, a=4, design=Paired(10))), Refused(4))
         self.assertEqual(adjusted.trial_figures(W, [7.0] * 15), Refused(12))
         self.assertEqual(adjusted.trial_figures(W, None, [7.0] * 7), Refused(12))
         buffer, work = [7.0] * 17, [7.0] * 9
@@ -522,7 +526,7 @@ class Balanced(unittest.TestCase):
 
     def test_trial_refusals(self):
         self.assertEqual(balanced.trial_run(replace(W, a=4)), Refused(3))
-        self.assertEqual(balanced.trial_run(replace(W, a=4, pairs=10)), Refused(4))
+        self.assertEqual(balanced.trial_run(replace(W, a=4, design=Paired(10))), Refused(4))
         for rooms in ((15, 8), (16, 7)):
             lent = [[7.0] * room for room in rooms]
             self.assertEqual(balanced.trial_run(W, *lent), Refused(12))
@@ -558,6 +562,18 @@ def subsets(size):
 
 def idle_rejected(full, idle):
     return sum(1 for j in idle if isinstance(full.verdicts[j], Rejected))
+
+
+def run_g(rng, one, idle, g, drawn=((-3, 0, 1, 2, 134_217_727),)):
+    """Run g's own trial: idle figures as it lists them, those of every other offer new, each of one drawing."""
+    figures = []
+    for i in range(one.offers):
+        if i in idle:
+            figures += one.design.listed(trial.offer_figures(one, i), g)
+        else:
+            choice = rng.choice(drawn)
+            figures += [rng.choice(choice) for _ in range(one.design.units)]
+    return replace(one, figures=trial.padded(figures, trial.FIGURE_PLACES))
 
 
 class Properties(unittest.TestCase):
@@ -641,23 +657,12 @@ class Properties(unittest.TestCase):
         rng = random.Random("demand 3, trials")
         for run_of in (trial.full_run, balanced.trial_run) * 60:
             one = random_trial(rng, 3, 4, 4)
-            e = method.level_rows(2 ** one.pairs, one.a, one.b)
+            rows = trial.rows_of(one)
+            e = method.level_rows(rows, one.a, one.b)
             for idle in subsets(one.offers):
-                runs = [run_of(self.run_g(rng, one, idle, g)) for g in range(2 ** one.pairs)]
+                runs = [run_of(run_g(rng, one, idle, g)) for g in range(rows)]
                 bad = sum(idle_rejected(full, idle) >= one.k for full in runs)
                 self.assertLessEqual(bad, e)
-
-    def run_g(self, rng, one, idle, g):
-        """Run g's own trial: idle differences exchanged by g, all others new."""
-        differences = list(one.differences)
-        for i in range(one.offers):
-            for j in range(one.pairs):
-                at = i * one.pairs + j
-                if i not in idle:
-                    differences[at] = rng.choice((-3, 0, 1, 2, 134_217_727))
-                elif g >> j & 1:
-                    differences[at] = -differences[at]
-        return replace(one, differences=tuple(differences))
 
     def test_report_and_c_call_agree(self):
         rng = random.Random("report")

@@ -24,6 +24,11 @@ class Samples(Report, programs.Samples, unittest.TestCase):
                          "trial 3 3 1 2 8\nstep 1 4 4 0042\nstep 2 2 0 7\n0042 rejected 1 1\n7 kept 2 3\n"
                          "04711 aside 0 0\nend 1\n")
 
+    def test_shops(self):
+        self.assertEqual(self.printed(programs.SHOPS),
+                         "trial 6 3 1 2 20\nstep 1 180 2 2301\nstep 2 45 3 0088\n2301 rejected 1 1\n"
+                         "0088 kept 2 14\n4105 aside 0 0\nend 1\n")
+
 
 class Inputs(Report, programs.Inputs, unittest.TestCase):
     pass

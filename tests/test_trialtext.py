@@ -16,8 +16,9 @@ import unittest
 from importlib.util import module_from_spec, spec_from_file_location
 from pathlib import Path
 
-from generators.files import damaged, further_damaged
-from generators.trials import some_trial, valid_trials
+from generators.files import SHOPS as EXAMPLE
+from generators.files import damaged, damaged_shops, further_damaged, further_damaged_shops
+from generators.trials import some_shop_trial, some_trial, valid_shop_trials, valid_trials
 from reference.refusals import Refused
 from reference.trialfile import read, write
 
@@ -28,6 +29,7 @@ trialtext = module_from_spec(_spec)
 _spec.loader.exec_module(trialtext)
 
 GOOD = b"level 1 4\nk 1\noffer 0042 5 3 4\noffer 7 2 -1 1\n"
+SHOPS = b"level 1 6\nk 1\ntreated 2\noffer 0042 9 7 2 4\noffer 7 3 -1 5 1\n"
 W = (ROOT / "samples" / "w.trial").read_bytes()
 
 
@@ -47,7 +49,7 @@ def number_of(data: bytes) -> int:
 class Samples(unittest.TestCase):
     def test_samples_are_made_from_their_texts(self):
         texts = sorted((ROOT / "samples").glob("*.txt"))
-        self.assertGreaterEqual(len(texts), 6)
+        self.assertGreaterEqual(len(texts), 7)
         for text in texts:
             data = text.with_suffix(".trial").read_bytes()
             self.assertEqual(trialtext.make(text.read_bytes()), data)
@@ -68,22 +70,33 @@ class RoundTrips(unittest.TestCase):
     def test_trials(self):
         for name, trial in valid_trials(random.Random("text"), each=2):
             text = self.check(write(trial), name)
-            head = f"# offers: {trial.offers}, pairs: {trial.pairs}\nlevel "
+            head = f"# offers: {trial.offers}, pairs: {trial.design.pairs}\nlevel "
             self.assertTrue(text.startswith(head), text)
             self.assertNotIn("word", text)
 
+    def test_trials_of_shops(self):
+        for name, trial in valid_shop_trials(random.Random("text"), each=8):
+            text = self.check(write(trial), name)
+            head = f"# offers: {trial.offers}, shops: {trial.design.shops}\nlevel "
+            self.assertTrue(text.startswith(head), text)
+            self.assertIn(f"\nk {trial.k}\ntreated {trial.design.treated}\noffer ", text)
+            self.assertNotIn("word", text)
+
+    def as_trials(self, files) -> set:
+        """The numbers of the damaged files that are shown as trials: what fits the lines of one."""
+        return {number_of(data) for name, data in files if "level" in self.check(data, name)}
+
     def test_damaged_files(self):
-        rng, as_trials = random.Random("text"), set()
-        for name, data in (*damaged(rng), *further_damaged(rng)):
-            if "level" in self.check(data, name):
-                as_trials.add(number_of(data))
-        self.assertEqual(as_trials, {0, 3, 4, 5, 6, 7})  # what fits the lines of a trial
+        rng = random.Random("text")
+        self.assertEqual(self.as_trials((*damaged(rng), *further_damaged(rng))), {0, 3, 4, 5, 6, 7})
+        self.assertEqual(self.as_trials((*damaged_shops(rng), *further_damaged_shops(rng))),
+                         {0, 3, 4, 5, 6, 7, 15})
 
     def test_any_words(self):
         rng = random.Random("words")
         for number in range(2000):
             words = rng.randint(1, 12)
-            kinds = [1, 2] + [rng.choice((3, 4, 15)) for _ in range(words)]
+            kinds = [1, rng.choice((2, 5))] + [rng.choice((3, 4, 15)) for _ in range(words)]
             data = b"".join((kind << 28 | rng.getrandbits(rng.randint(0, 28))).to_bytes(4, "little")
                             for kind in (kinds if number % 2 else rng.choices(range(16), k=words)))
             self.check(data, data.hex())
@@ -101,12 +114,34 @@ class BadTrials(unittest.TestCase):
                 (4, "level 1 4\nk 1\n"), (4, "level 1 4\nk 1\noffer 1\n"),
                 (4, "level 1 4\nk 1\noffer 1" + " 1" * 10),
                 (4, "level 1 4\nk 1\n" + "".join(f"offer {i} 1\n" for i in range(17))),
-                (1, "level 1 4\nk 1\n" + "".join(f"offer {i} {'1 ' * 9}\n" for i in range(17))),
+                (4, "level 1 4\nk 1\n" + "".join(f"offer {i} {'1 ' * 9}\n" for i in range(17))),
+                (1, "level 1 4\nk 1\n" + "".join(f"offer {i} {'1 ' * 10}\n" for i in range(17))),
                 (5, lines.replace("0042", "00000042")), (5, lines.replace("0042", "16777215")),
                 (6, lines.replace("offer 7", "offer 42")), (7, lines.replace(" 5", " -134217728")),
                 (2, "word 1 16388\nword 2 66049\n"), (8, trialtext.show(W[:-4] + b"\0\0\0\xf0")),
                 (0, lines.replace(" 5", " -134217727")), (0, lines.replace(" 5", " +134217727"))):
             self.assertEqual(number_of(trialtext.make(text.encode())), number, text)
+
+    def test_each_number_of_shops(self):
+        lines = SHOPS.decode()
+        eleven = "level 1 4\nk 1\ntreated 5\noffer 1" + " 1 2" * 5
+        for number, text in (
+                (4, lines.replace("k 1", "k 0")), (4, lines.replace("k 1", "k 3")),
+                (4, lines.replace("k 1", "k 15")), (15, lines.replace("treated 2", "treated 0")),
+                (15, lines.replace("treated 2", "treated 4")), (0, lines.replace("treated 2", "treated 3")),
+                (15, lines.replace("treated 2", "treated 255")), (0, eleven), (15, eleven + " 1"),
+                (15, "level 1 4\nk 1\ntreated 1\noffer 1 1"), (15, "level 1 4\nk 1\ntreated 1\noffer 1"),
+                (4, "level 1 4\nk 1\ntreated 1\n"), (3, lines.replace("1 6", "6 6").replace("treated 2", "treated 9")),
+                (4, lines.replace("k 1", "k 0").replace("treated 2", "treated 9")),
+                (6, lines.replace("offer 7", "offer 42")), (7, lines.replace(" 9", " -134217728"))):
+            self.assertEqual(number_of(trialtext.make(text.encode())), number, text)
+
+    def test_shops_or_pairs(self):
+        """The line alone makes the figures those of shops."""
+        for text, kind in ((SHOPS, 5), (SHOPS.replace(b"treated 2\n", b""), 2)):
+            self.assertEqual(trialtext.make(text)[7] >> 4, kind)
+        self.assertEqual(trialtext.make(SHOPS), write(EXAMPLE))
+        self.assertEqual(trialtext.show(write(EXAMPLE)), "# offers: 2, shops: 4\n" + SHOPS.decode())
 
 
 class BadTexts(unittest.TestCase):
@@ -128,6 +163,14 @@ class BadTexts(unittest.TestCase):
                 (4, b"-1", b"1.5"), (4, b"-1", b"1e3"), (4, b"-1", b"1_0"), (4, b"-1", b"- 1"),
                 (4, b" -1", b""), (4, b"offer 7", b"offre 7"), (4, b"offer 7", b"Offer 7")):
             self.check(line, GOOD.replace(old, new))
+        for line, old, new in (
+                (3, b"treated 2", b"treated"), (3, b"treated 2", b"treated 2 2"),
+                (3, b"treated 2", b"treated 256"), (3, b"treated 2", b"treated -1"),
+                (3, b"treated 2", b"treaded 2"), (2, b"k 1", b"k 256"), (5, b" 5 1", b" 5"),
+                (4, b" 9", b" 134217728")):
+            self.check(line, SHOPS.replace(old, new))
+        self.check(2, SHOPS.replace(b"k 1", b"k 16"), "k must be at most 15 with a 'treated' line, not 16")
+        trialtext.make(GOOD.replace(b"k 1", b"k 16"))
 
     def test_what_is_missing_or_twice(self):
         self.check(1, b"", "no 'level' line")
@@ -136,6 +179,8 @@ class BadTexts(unittest.TestCase):
         self.check(4, GOOD.replace(b"k 1", b""), "no 'k' line")
         self.check(5, GOOD + b"level 1 4", "a second 'level' line")
         self.check(6, GOOD + b"\nk 1\n", "a second 'k' line")
+        self.check(6, SHOPS + b"treated 2\n", "a second 'treated' line")
+        self.check(1, b"treated 2\nword 1 2\n", "a text with 'word' lines has no others")
         self.check(1, GOOD + b"word 1 2", "a text with 'word' lines has no others")
         self.check(2, b"word 1 2\nk 1\n", "a text with 'word' lines has no others")
         self.check(1, b"word 16 1", "from 0 to 15")
@@ -143,7 +188,7 @@ class BadTexts(unittest.TestCase):
 
     def test_too_many(self):
         self.check(258, b"level 1 4\nk 1\n" + b"offer 1 1\n" * 256, "more than 255 offers")
-        self.check(3, b"level 1 4\nk 1\noffer 1" + b" 1" * 256, "more than 255 differences")
+        self.check(3, b"level 1 4\nk 1\noffer 1" + b" 1" * 256, "more than 255 figures")
         trialtext.make(b"level 1 4\nk 1\n" + (b"offer 1" + b" 1" * 255 + b"\n") * 255)
 
     def test_characters_that_do_not_show(self):
@@ -180,7 +225,8 @@ class BadTexts(unittest.TestCase):
         """One byte of a text is another: packed, or refused at some line of it."""
         rng, made = random.Random("damaged"), 0
         for _ in range(3000):
-            text = bytearray(trialtext.show(write(some_trial(rng, 3, 3))).encode())
+            drawn = rng.choice((some_trial, some_shop_trial))
+            text = bytearray(trialtext.show(write(drawn(rng, 3, 3))).encode())
             text[rng.randrange(len(text))] = rng.choice((rng.randrange(256), *b"0123456789 -#\n"))
             try:
                 made += len(trialtext.make(bytes(text))) % 4 == 0
@@ -211,6 +257,9 @@ class Calls(unittest.TestCase):
         self.assertEqual(call("make", self.out, data=GOOD), (0, b"", ""))
         self.assertEqual(self.left(), {"w.trial": W})
         self.assertEqual(call("show", data=W), (0, b"# offers: 2, pairs: 3\n" + GOOD, ""))
+        self.assertEqual(call("make", self.out, data=SHOPS), (0, b"", ""))
+        self.assertEqual(self.left(), {"w.trial": write(EXAMPLE)})
+        self.assertEqual(call("show", data=write(EXAMPLE)), (0, b"# offers: 2, shops: 4\n" + SHOPS, ""))
 
     def test_a_file_that_is_there(self):
         self.out.write_bytes(b"old")

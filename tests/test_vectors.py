@@ -10,16 +10,18 @@ from itertools import combinations
 
 from cases import SEED, all_cases, every_case_of
 from expected import expected
-from generators import files, order, records
+from generators import designs, files, order, records
 from generators.kinds import (BalancedRunCase, FileCase, LookCase, RecordCase, StepCase, TableCase,
                               WalkCase)
+from generators.trials import shapes as every_shape
 from make_vectors import CRATE, files as made_files
 from reference import balanced, table
+from reference.designs import Paired, Unpaired
 from reference.refusals import Refused, breaks_3, table_breaks_4
 from reference.report import report
 from reference.run import CLAUSES_OF_14, clauses_broken
 from reference.table import Rejected
-from reference.trial import (differences_of, full_run, remaining, rows_of, table_of,
+from reference.trial import (full_run, offer_figures, remaining, rows_of, table_of,
                              trial_refusal)
 from reference.trialfile import bytes_of, read, words_of, write
 from reference.view import OUTSIDE
@@ -27,6 +29,12 @@ from reference.view import OUTSIDE
 
 def number_of(answer) -> int:
     return answer.number if isinstance(answer, Refused) else 0
+
+
+def broken_by(defect: str) -> int:
+    """The number that a defect's name begins with; 0 for one that breaks nothing."""
+    first = defect.partition("-")[0]
+    return 0 if first == "ok" else int(first)
 
 
 def of_figures(held) -> list:
@@ -123,47 +131,71 @@ class Covered(unittest.TestCase):
         answered = {name: trial_refusal(change(records.BASE)) for name, change in defects.items()}
         self.assertEqual(set(answered.values()), {4, 3, 5, 6, 7})
         for name, number in answered.items():
-            self.assertEqual(number, int(name[0]))
+            self.assertEqual(number, broken_by(name))
             self.assertIn(f"record-{name}", self.cases)
             no_room = self.cases[f"record-{name}-no-room"]
             self.assertEqual({number}, {number_of(answer[0]) for call, answer
                                         in expected(no_room).items() if call != "check"})
-        before = set()
-        for one, two in combinations(records.PAIRED, 2):
-            found = trial_refusal(self.cases[f"record-{one}-{two}"].trial)
-            before |= {(found, later) for later in {int(one[0]), int(two[0])} - {found}}
-        self.assertEqual(before, set(combinations((4, 3, 5, 6, 7), 2)) | {(6, 5)})
+        self.assertEqual(self.before(records.PAIRED, lambda one, two: trial_refusal(
+            self.cases[f"record-{one}-{two}"].trial)),
+                         set(combinations((4, 3, 5, 6, 7), 2)) | {(6, 5)})
         rooms = [case for case in self.of(RecordCase) if case.name.startswith("record-room")]
         refused = Counter(tuple(number_of(answer[0]) for call, answer in expected(case).items()
                                 if call != "check") for case in rooms)
         self.assertEqual(set(refused), {(0, 0, 0, 0), (12, 0, 0, 0), (0, 12, 12, 12), (0, 0, 12, 12),
                                         (12, 12, 12, 12)})
 
+    def before(self, names, found_of) -> set:
+        """(the number that two defects are refused by, the other's), where these differ."""
+        found = {(one, two): found_of(one, two) for one, two in combinations(names, 2)}
+        return {(number, later) for pair, number in found.items()
+                for later in set(map(broken_by, pair)) - {number}}
+
+    def test_orders_of_a_record_of_shops(self):
+        """4 before 15, 15 before 3 and all others; no room is asked after."""
+        for name, change in records.defects(records.SHOPS_BASE).items():
+            case = self.cases[f"record-shops-{name}"]
+            self.assertEqual(trial_refusal(case.trial) or 0, broken_by(name), name)
+        self.assertEqual(self.before(records.SHOPS_PAIRED, lambda one, two: trial_refusal(
+            self.cases[f"record-shops-{one}-{two}"].trial)), set(combinations((4, 15, 3, 5, 6, 7), 2)))
+
+    def check_defects_of_files(self, base, name, names, before):
+        """Each defect alone is met by its number; of each two named, the numbers that come before others."""
+        words = words_of(write(base))
+        for defect, change in files.defects(base).items():
+            self.assertEqual(number_of(read(bytes_of(change(words)))), broken_by(defect), defect)
+            self.assertIn(f"{name}-defect-{defect}", self.cases)
+        self.assertEqual(before, self.before(names, lambda one, two: number_of(
+            read(self.cases[f"{name}-defects-{one}-{two}"].data))))
+
     def test_orders_of_a_file(self):
         """The defects of the generator, alone and in pairs; 1 before all."""
-        words = words_of(write(files.BASE))
-        defects = {name: change for name, change in files.defects().items() if name[0] != "o"}
-        for name, change in defects.items():
-            self.assertEqual(number_of(read(bytes_of(change(words)))), int(name[0]), name)
-            self.assertIn(f"file-defect-{name}", self.cases)
+        order = (2, 3, 4, 5, 6, 7, 8)
+        self.check_defects_of_files(files.BASE, "file", files.PAIRED, set(combinations(order, 2))
+                                    | {(n, 2) for n in order[1:-1]} | {(6, 5)})
+        for name in files.defects(files.BASE):
             self.assertEqual(read(self.cases[f"file-defect-{name}-odd"].data), Refused(1))
-        before = set()
-        for one, two in combinations(files.PAIRED, 2):
-            found = number_of(read(self.cases[f"file-defects-{one}-{two}"].data))
-            before |= {(found, later) for later in {int(one[0]), int(two[0])} - {found}}
-        self.assertEqual(before, set(combinations(range(2, 9), 2)) | {(n, 2) for n in range(3, 8)}
-                         | {(6, 5)})
+
+    def test_orders_of_a_file_of_shops(self):
+        """At the shape word 2, 4, 15; the level stands before it."""
+        order = (2, 3, 4, 15, 5, 6, 7, 8)
+        self.check_defects_of_files(files.SHOPS_BASE, "file-shops", files.SHOPS_PAIRED,
+                                    set(combinations(order, 2)) | {(n, 2) for n in order[1:-1]})
 
     def test_trials(self):
         """Each shape is stored; the C tests take some thousand trials and as many damaged files."""
         found = Counter(number_of(read(case.data)) for case in self.of(FileCase))
-        self.assertEqual(set(found), set(range(9)))
+        self.assertEqual(set(found), {*range(9), 15})
         self.assertGreaterEqual(sum(found.values()) - found[0], 700)
-        shapes = {(trial.offers, trial.pairs, trial.k) for case in self.of(FileCase)
-                  if not isinstance(trial := read(case.data), Refused)}
-        self.assertEqual(len(shapes), sum(9 * min(4, offers) for offers in range(1, 17)))
+        read_ones = [trial for case in self.of(FileCase)
+                     if not isinstance(trial := read(case.data), Refused)]
+        shapes = {(trial.offers, trial.design, trial.k) for trial in read_ones}
+        self.assertLessEqual(set(every_shape()), shapes)
+        self.assertLessEqual(set(designs.EVERY_UNPAIRED), {design for _, design, _ in shapes})
+        of_shops = {(offers, k) for offers, design, k in shapes if design.KIND == 5}
+        self.assertLessEqual({(offers, k) for k in (1, 2, 3, 4) for offers in (k, 7, 16)}, of_shops)
         found = Counter(number_of(read(case.data)) for case in every_case_of("file"))
-        self.assertGreaterEqual(found[0], 2000)
+        self.assertGreaterEqual(found[0], 2500)
         self.assertGreaterEqual(sum(found.values()) - found[0], 2000)
 
     def test_reports(self):
@@ -189,9 +221,10 @@ class Covered(unittest.TestCase):
             left = [(len(remaining(trial)), trial.k) for trial in trials]
             states = Counter((n > 0) + (n >= k) + (n > k) for n, k in left)
             self.assertTrue(all(states[state] >= 5 for state in range(4)), states)
-            self.assertIn(1, {trial.pairs for trial in trials})
+            self.assertLessEqual({Paired(1), Unpaired(2, 1)}, {trial.design for trial in trials})
             self.assertIn(16, {trial.offers for trial in trials})
-            sums = [sum(differences_of(trial, i)) for trial in trials for i in remaining(trial)]
+            sums = [trial.design.entry(offer_figures(trial, i), 0) for trial in trials
+                    for i in remaining(trial)]
             self.assertGreaterEqual(sums.count(0), 5)
 
     def test_runs_aside(self):

@@ -11,6 +11,12 @@ The text, in simple lines; '#' starts a comment:
     offer 0042 5 3 4      an offer's printed code, then its difference in cents
     offer 7 2 -1 1        for each pair
 
+or, for shops without partners, with a line more:
+
+    treated 2             how many of the shops are treated
+    offer 0042 9 7 2 4    an offer's figure in cents for each shop, the treated
+    offer 7 3 -1 5 1      ones first
+
 or, for a file whose words do not stand like that, word by word:
 
     word 15 8             a word's kind and the value of its other 28 bits
@@ -29,7 +35,8 @@ import struct
 import sys
 import unicodedata
 
-LEVEL, SHAPE, OFFER, DIFFERENCE, END = 1, 2, 3, 4, 15  # kinds of word: bits 31 to 28
+# kinds of word: bits 31 to 28; the shape of a trial of pairs, and of one of shops
+LEVEL, PAIRS, OFFER, FIGURE, SHOPS, END = 1, 2, 3, 4, 5, 15
 MOST_BYTES = 2 ** 20  # of an input; no trial comes near
 
 
@@ -97,19 +104,20 @@ def word(kind, value):
 
 
 def offer_words(at, fields):
-    """An offer line as words: the offer, then its differences."""
+    """An offer line as words: the offer, then its figures."""
     code = fields[0] if fields else ""
     if not re.fullmatch("[0-9]{1,15}", code) or int(code) >= 2 ** 24:
         raise BadText(at, "an offer needs a code of 1 to 15 digits, "
                           f"below {2 ** 24}, not {code[:40]!a}")
-    cents = [whole(at, field, -2 ** 27, 2 ** 27 - 1, "a difference") for field in fields[1:]]
+    cents = [whole(at, field, -2 ** 27, 2 ** 27 - 1, "a figure") for field in fields[1:]]
     return [word(OFFER, len(code) << 24 | int(code)),
-            *(word(DIFFERENCE, cent % 2 ** 28) for cent in cents)]
+            *(word(FIGURE, cent % 2 ** 28) for cent in cents)]
 
 
 LINES = {
     "level": lambda at, fields: unsigned(at, fields, "level", 14, 14),
     "k": lambda at, fields: unsigned(at, fields, "k", 8),
+    "treated": lambda at, fields: unsigned(at, fields, "treated", 8),
     "offer": offer_words,
     "word": lambda at, fields: word(*unsigned(at, fields, "word", 4, 28)),
 }
@@ -124,33 +132,43 @@ def only(found, name, last):
     return found[name][0][1]
 
 
-def pairs_of(offers):
-    """How many differences each offer has: the file has one number for all."""
+def units_of(offers):
+    """How many figures each offer has: the file has one number for all."""
     at, words = offers[0] if offers else (1, [0])
     for other, listed in offers:
         if len(listed) != len(words):
-            raise BadText(other, f"{len(listed) - 1} differences, "
+            raise BadText(other, f"{len(listed) - 1} figures, "
                                  f"where line {at} has {len(words) - 1}")
     if len(words) > 256:
-        raise BadText(at, "more than 255 differences")
+        raise BadText(at, "more than 255 figures")
     return len(words) - 1
+
+
+def shape_word(found, last, k, offers, units):
+    """Of pairs, or of shops where a line tells how many are treated; that word has fewer bits for k."""
+    if not found["treated"]:
+        return word(PAIRS, k << 16 | offers << 8 | units)
+    (treated,) = only(found, "treated", last)
+    if k > 15:
+        raise BadText(found["k"][0][0], f"k must be at most 15 with a 'treated' line, not {k}")
+    return word(SHOPS, k << 24 | offers << 16 | units << 8 | treated)
 
 
 def trial_words(found, last):
     """The words of a trial."""
     (a, b), (k,), offers = only(found, "level", last), only(found, "k", last), found["offer"]
-    pairs = pairs_of(offers)
+    units = units_of(offers)
     if len(offers) > 255:
         raise BadText(offers[255][0], "more than 255 offers")
-    words = [word(LEVEL, a << 14 | b), word(SHAPE, k << 16 | len(offers) << 8 | pairs)]
+    words = [word(LEVEL, a << 14 | b), shape_word(found, last, k, len(offers), units)]
     words += [listed[0] for _, listed in offers]
-    words += [difference for _, listed in offers for difference in listed[1:]]
+    words += [figure for _, listed in offers for figure in listed[1:]]
     return words + [word(END, len(words))]
 
 
 def plain_words(found):
     """The words that a text lists."""
-    others = [at for name in ("level", "k", "offer") for at, _ in found[name]]
+    others = [at for name in LINES if name != "word" for at, _ in found[name]]
     if others:
         raise BadText(min(others), "a text with 'word' lines has no others")
     return [listed for _, listed in found["word"]]
@@ -176,17 +194,28 @@ def make(text):
 
 # ---- showing
 
+def shape_of(shape):
+    """What the figures are of, how many for each offer, the offers, and the lines of a shape word.
+
+    One that is no shape word is taken for that of pairs.
+    """
+    high, third, second, last = shape >> 24 & 15, shape >> 16 & 255, shape >> 8 & 255, shape & 255
+    if shape >> 28 == SHOPS:
+        return "shops", second, third, [f"k {high}", f"treated {last}"]
+    return "pairs", last, second, [f"k {third}"]
+
+
 def trial_lines(words):
     """Words as the lines of a trial, whatever they are."""
     level, shape = (words + [0])[:2]
-    offers, pairs = shape >> 8 & 255, shape & 255
-    yield f"# offers: {offers}, pairs: {pairs}"
+    name, units, offers, lines = shape_of(shape)
+    yield f"# offers: {offers}, {name}: {units}"
     yield f"level {level >> 14 & 2 ** 14 - 1} {level & 2 ** 14 - 1}"
-    yield f"k {shape >> 16 & 255}"
+    yield from lines
     for i, offer in enumerate(words[2:2 + offers]):
         code = str(offer & 2 ** 24 - 1).zfill(offer >> 24 & 15)
-        first = 2 + offers + i * pairs
-        cents = [(w + 2 ** 27) % 2 ** 28 - 2 ** 27 for w in words[first:first + pairs]]
+        first = 2 + offers + i * units
+        cents = [(w + 2 ** 27) % 2 ** 28 - 2 ** 27 for w in words[first:first + units]]
         yield " ".join(map(str, ["offer", code, *cents]))
 
 

@@ -7,6 +7,8 @@
  *   adjusted.c   adjusted figures of tables (document 02, section 1)
  *   balanced.c   balanced tables (section 3)
  *   trial.c      trial records: checks, table, full run with offers set aside (section 4)
+ *   pairs.c      what goes by how a trial was laid out: in pairs,
+ *   shops.c      or in shops without partners (section 6; layouts.h, blocks.h: what both share)
  *   file.c       trial files: reader and writer
  *   report.c     the report's text, and the verdicts as the calls of include/becardlarder.h give them
  *
@@ -25,15 +27,19 @@ enum {
     MOST_K = 4,
     MOST_B = 16383,
     MOST_PAIRS = 9,
+    MOST_SHOPS = 10,
     MOST_OFFERS = 16,
     MOST_DIGITS = 7,
-    MOST_DIFFERENCE = 134217727,
-    MOST_DIFFERENCES = MOST_OFFERS * MOST_PAIRS,
+    MOST_FIGURE = 134217727,
+    MOST_FIGURES = MOST_OFFERS * MOST_SHOPS,
     MOST_TRIAL_ROWS = 1 << MOST_PAIRS,
     ASIDE = 255,
-    LONGEST_FILE = 652,
+    LONGEST_FILE = 716,
     LONGEST_REPORT = 3561
 };
+
+/* How a trial was laid out: in pairs, or in shops without partners. These are the kinds of the shape words. */
+enum { PAIRS = 2, SHOPS = 5 };
 
 /* A table, the figures of its run, and a work buffer. */
 struct table {
@@ -59,12 +65,15 @@ struct full_run {
     size_t looks, rises; /* with masks and k > 1: passes over the masks, and sets for which c(K) was worked out */
 };
 
-/* A trial: the difference of offer i and pair j (from 0) stands at i * pairs + j. */
+/*
+ * A trial: the figure of offer i and unit j (from 0) stands at i * units + j. Units are pairs, with differences, or
+ * shops, the treated ones first. Of pairs `treated` is not looked at; reading makes it 0.
+ */
 struct trial {
-    size_t a, b, k, offers, pairs;
+    size_t a, b, k, offers, kind, units, treated;
     uint32_t codes[MOST_OFFERS];
     uint8_t digits[MOST_OFFERS];
-    int32_t differences[MOST_DIFFERENCES];
+    int32_t figures[MOST_FIGURES];
 };
 
 /* Whether a/b is a level. */
@@ -94,7 +103,7 @@ int figures_by_maxima(const struct table *table, uint32_t *figures, size_t place
 int balanced_by_codes(const double *values, size_t length, size_t rows, size_t columns, double *out, size_t places);
 int balanced_by_bits(const double *values, size_t length, size_t rows, size_t columns, double *out, size_t places);
 
-/* Whether the counts are in their ranges, and k is at most the offers. */
+/* Whether there is such a kind, the counts are in their ranges, and k is at most the offers. */
 int good_counts(const struct trial *trial);
 
 /* Whether an offer has a code of so many printed digits that no offer before it has. */
@@ -102,8 +111,14 @@ int good_offer(const struct trial *trial, size_t offer);
 
 int check_trial(const struct trial *trial);
 
-/* Whether a trial's table is made by doubling, as the library makes it, or entry by entry. */
-extern int table_by_doubling;
+/* The rows of an accepted trial's table. */
+size_t rows_of(const struct trial *trial);
+
+/* Whether a trial's table is made by blocks of rows, as the library makes it, or entry by entry. */
+extern int table_by_blocks;
+
+/* The table of all offers, those set aside too, into the first places of out. */
+int table_of_trial(const struct trial *trial, double *out, size_t places);
 
 /* The full run of an accepted trial, with buffers of its own. */
 void run_trial(const struct trial *trial, struct full_run *run);

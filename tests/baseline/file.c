@@ -1,8 +1,8 @@
 /* Trial files: reader and writer. */
-#include "baseline.h"
+#include "layouts.h"
 
-/* Kinds of word: bits 31 to 28. */
-enum { LEVEL = 1, SHAPE = 2, OFFER = 3, DIFFERENCE = 4, END = 15 };
+/* Kinds of word: bits 31 to 28. That of the shape word is the trial's. */
+enum { LEVEL = 1, OFFER = 3, FIGURE = 4, END = 15 };
 
 /* The words of a file that are still to be read. */
 struct words {
@@ -10,8 +10,8 @@ struct words {
     size_t left;
 };
 
-/* The next word, if it is there and of that kind: then its bits 27 to 0. Answers whether it is. */
-static int next(struct words *w, uint32_t kind, uint32_t *bits)
+/* The next word, if it is there: its kind, and its bits 27 to 0. A missing one has a kind that none has. */
+static uint32_t next_kind(struct words *w, uint32_t *bits)
 {
     if (w->left == 0)
         return 0;
@@ -19,7 +19,13 @@ static int next(struct words *w, uint32_t kind, uint32_t *bits)
     w->at += 4;
     w->left--;
     *bits = word & 0xFFFFFFF;
-    return word >> 28 == kind;
+    return word >> 28;
+}
+
+/* Whether the next word is there and of that kind. */
+static int next(struct words *w, uint32_t kind, uint32_t *bits)
+{
+    return next_kind(w, bits) == kind;
 }
 
 static int read_level(struct words *w, struct trial *t)
@@ -35,12 +41,9 @@ static int read_level(struct words *w, struct trial *t)
 static int read_shape(struct words *w, struct trial *t)
 {
     uint32_t bits;
-    if (!next(w, SHAPE, &bits))
-        return 0;
-    t->k = bits >> 16 & 0xFF;
-    t->offers = bits >> 8 & 0xFF;
-    t->pairs = bits & 0xFF;
-    return bits >> 24 == 0 && good_counts(t);
+    t->kind = next_kind(w, &bits);
+    const struct layout *layout = layout_of(t->kind);
+    return layout != NULL && layout->read_shape(bits, t) && good_counts(t);
 }
 
 static int read_offers(struct words *w, struct trial *t)
@@ -57,14 +60,14 @@ static int read_offers(struct words *w, struct trial *t)
     return 1;
 }
 
-static int read_differences(struct words *w, struct trial *t)
+static int read_figures(struct words *w, struct trial *t)
 {
     uint32_t bits;
-    for (size_t i = 0; i < t->offers * t->pairs; i++) {
-        if (!next(w, DIFFERENCE, &bits))
+    for (size_t i = 0; i < t->offers * t->units; i++) {
+        if (!next(w, FIGURE, &bits))
             return 0;
-        t->differences[i] = (int32_t)(bits ^ 0x8000000) - 0x8000000; /* 28 bits, two's complement */
-        if (t->differences[i] < -MOST_DIFFERENCE)
+        t->figures[i] = (int32_t)(bits ^ 0x8000000) - 0x8000000; /* 28 bits, two's complement */
+        if (t->figures[i] < -MOST_FIGURE)
             return 0;
     }
     return 1;
@@ -82,8 +85,8 @@ int read_trial(const uint8_t *file, size_t length, struct trial *trial)
     struct trial t = {0};
     if (length % 4 != 0 || length > LONGEST_FILE)
         return 0;
-    if (!read_level(&w, &t) || !read_shape(&w, &t) || !read_offers(&w, &t) || !read_differences(&w, &t) ||
-        !read_end(&w, 2 + t.offers + t.offers * t.pairs))
+    if (!read_level(&w, &t) || !read_shape(&w, &t) || !read_offers(&w, &t) || !read_figures(&w, &t) ||
+        !read_end(&w, 2 + t.offers + t.offers * t.units))
         return 0;
     *trial = t;
     return 1;
@@ -104,15 +107,15 @@ int write_trial(const struct trial *t, uint8_t *out, size_t places, size_t *leng
 {
     if (!check_trial(t))
         return 0;
-    size_t n = t->offers * t->pairs, before = 2 + t->offers + n;
+    size_t n = t->offers * t->units, before = 2 + t->offers + n;
     if (places < 4 * (before + 1))
         return 0;
     out = put(out, LEVEL, (uint32_t)(t->a << 14 | t->b));
-    out = put(out, SHAPE, (uint32_t)(t->k << 16 | t->offers << 8 | t->pairs));
+    out = put(out, (uint32_t)t->kind, layout_of(t->kind)->shape(t));
     for (size_t i = 0; i < t->offers; i++)
         out = put(out, OFFER, (uint32_t)t->digits[i] << 24 | t->codes[i]);
     for (size_t i = 0; i < n; i++)
-        out = put(out, DIFFERENCE, (uint32_t)t->differences[i] & 0xFFFFFFF);
+        out = put(out, FIGURE, (uint32_t)t->figures[i] & 0xFFFFFFF);
     put(out, END, (uint32_t)before);
     *length = 4 * (before + 1);
     return 1;

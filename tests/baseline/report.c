@@ -35,8 +35,8 @@ static void add_offer(struct text *text, const struct trial *t, const struct ful
 
 static void add_run(struct text *text, const struct trial *t, const struct full_run *run)
 {
-    size_t rows = (size_t)1 << t->pairs;
-    add(text, "trial %zu %zu %zu %zu %zu\n", t->pairs, t->offers, t->k, allowance(rows, t->a, t->b), rows);
+    size_t rows = rows_of(t);
+    add(text, "trial %zu %zu %zu %zu %zu\n", t->units, t->offers, t->k, allowance(rows, t->a, t->b), rows);
     for (size_t i = 0; i < run->steps; i++)
         add_step(text, t, run, i);
     for (size_t i = 0; i < t->offers; i++)

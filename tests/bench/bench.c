@@ -59,13 +59,22 @@ static const struct task tasks[] = {
     {NULL, 0, "512 x 16, C by bits", BITWISE, {NOISE, 512, 16, 0, 0}},
     {NULL, 0, "4096 x 1, C by bits", BITWISE, {NOISE, 4096, 1, 0, 0}},
     {NULL, 0, "4096 x 32, crowd, C by bits", BITWISE, {CROWD, 4096, 32, 0, 0}},
-    {"A largest file", 0, "verdicts for C", VERDICTS, {.k = 4}},
+    {"Tables of trials", 0, "252 x 16, 10 shops, 5 treated", TABLE, {HALF, .k = 4}},
+    {NULL, 0, "10 x 16, 10 shops, 9 treated", TABLE, {MOST, .k = 4}},
+    {NULL, 0, "512 x 16, 9 pairs", TABLE, {.k = 4}},
+    {"Files of 9 pairs", 0, "verdicts for C", VERDICTS, {.k = 4}},
     {NULL, 0, "report", REPORT, {.k = 1}},
-    {NULL, 0, "report, C by doubling too", DOUBLED, {.k = 1}},
+    {NULL, 0, "report, C by doubling too", BLOCKS, {.k = 1}},
     {NULL, 0, "report", REPORT, {.k = 4}},
     {NULL, 0, "report, opposite offers", REPORT, {VALLEY, .k = 4}},
     {NULL, 0, "reading", READING, {.k = 4}},
     {NULL, 0, "writing", WRITING, {.k = 4}},
+    {"Files of 10 shops, 5 treated", 0, "verdicts for C, shops", VERDICTS, {HALF, .k = 4}},
+    {NULL, 0, "report, shops", REPORT, {HALF, .k = 1}},
+    {NULL, 0, "report, shops, C by blocks too", BLOCKS, {HALF, .k = 1}},
+    {NULL, 0, "report, shops", REPORT, {HALF, .k = 4}},
+    {NULL, 0, "reading, shops", READING, {HALF, .k = 4}},
+    {NULL, 0, "writing, shops", WRITING, {HALF, .k = 4}},
     {"Growth with rows, C by masks", 1, "256 x 16", MASKS, {WINNERS, 256, 16, 2, 8}},
     {NULL, 1, "512 x 16", MASKS, {WINNERS, 512, 16, 2, 8}},
     {NULL, 1, "1024 x 16", MASKS, {WINNERS, 1024, 16, 2, 8}},
@@ -218,6 +227,7 @@ static const char *asked_by(const struct task *task)
     return runs_table(task)                                 ? "run"
            : balances_table(task)                           ? "balance"
            : task->kind == ADJUSTED || task->kind == MAXIMA ? "figures"
+           : task->kind == TABLE                            ? "table"
                                                             : "file";
 }
 

@@ -288,19 +288,25 @@ void make_table(const struct recipe *r, size_t number, struct table *t)
     *t = (struct table){values, r->rows * r->columns, r->rows, r->columns, r->k, 1, 20, observed, NULL, 0};
 }
 
-static void make_winner(int32_t *differences, size_t pairs)
+/* Figures far above noise in the first units, which are all pairs, or the treated shops. */
+static void make_winner(int32_t *figures, size_t units, size_t first)
 {
-    for (size_t j = 0; j < pairs; j++)
-        differences[j] = (int32_t)(60000 + 30000 * uniform());
+    for (size_t j = 0; j < first; j++)
+        figures[j] = (int32_t)(60000 + 30000 * uniform());
+    for (size_t j = first; j < units; j++)
+        figures[j] = (int32_t)(5000 * noise());
 }
 
-static void make_loser(int32_t *differences, size_t pairs)
+/* Noise. The observed value is no positive one: all signs are changed where it would be. */
+static void make_loser(int32_t *figures, size_t units, size_t first)
 {
-    int32_t sum = 0;
-    for (size_t j = 0; j < pairs; j++)
-        sum += differences[j] = (int32_t)(20000 * noise());
-    for (size_t j = 0; j < pairs && sum > 0; j++)
-        differences[j] = -differences[j];
+    int64_t others = (int64_t)(units - first), sum = 0;
+    for (size_t j = 0; j < units; j++) {
+        figures[j] = (int32_t)(20000 * noise());
+        sum += figures[j] * (j >= first ? -(int64_t)first : others == 0 ? 1 : others);
+    }
+    for (size_t j = 0; j < units && sum > 0; j++)
+        figures[j] = -figures[j];
 }
 
 static void make_doubling(int32_t *differences, size_t pairs, int32_t first)
@@ -309,19 +315,29 @@ static void make_doubling(int32_t *differences, size_t pairs, int32_t first)
         differences[j] = first * (1 << j);
 }
 
+/* How the trial of a pattern is laid out. */
+static void lay_out(enum pattern pattern, struct trial *t)
+{
+    t->treated = pattern == HALF ? 5 : pattern == MOST ? MOST_SHOPS - 1 : 0;
+    t->kind = t->treated == 0 ? PAIRS : SHOPS;
+    t->units = t->treated == 0 ? MOST_PAIRS : MOST_SHOPS;
+}
+
 void make_trial(enum pattern pattern, size_t k, size_t number, struct trial *t)
 {
     state = SEED + number;
-    *t = (struct trial){.a = 1, .b = 20, .k = k, .offers = MOST_OFFERS, .pairs = MOST_PAIRS};
+    *t = (struct trial){.a = 1, .b = 20, .k = k, .offers = MOST_OFFERS};
+    lay_out(pattern, t);
     for (size_t i = 0; i < t->offers; i++) {
-        int32_t *differences = t->differences + i * t->pairs, size = 16 + (int32_t)(i / 2);
+        int32_t *figures = t->figures + i * t->units, size = 16 + (int32_t)(i / 2);
+        size_t first = t->treated == 0 ? t->units : t->treated;
         t->codes[i] = 9999999 - 7919 * (uint32_t)i;
         t->digits[i] = MOST_DIGITS;
         if (pattern == VALLEY)
-            make_doubling(differences, t->pairs, i % 2 == 0 ? size : -size);
+            make_doubling(figures, t->units, i % 2 == 0 ? size : -size);
         else if (i % 2 == 0)
-            make_winner(differences, t->pairs);
+            make_winner(figures, t->units, first);
         else
-            make_loser(differences, t->pairs);
+            make_loser(figures, t->units, first);
     }
 }

@@ -4,7 +4,7 @@
 
 #include "baseline.h"
 
-/* How the values of a table are made. */
+/* How the values of a table, or the figures of a trial, are made. */
 enum pattern {
     WINNERS, /* noise; in the observed row the first columns stand far above it, and the others at zero: step 1 rejects
                 the first ones, step 2 none */
@@ -16,6 +16,8 @@ enum pattern {
     NOISE,   /* all values of a column are different */
     CENTS,   /* noise in whole cents: each column has equal values */
     CROWD,   /* all values of a column but one differ in their last bits alone: a sort by top bits does nothing */
+    HALF,    /* a trial of shops, 5 of them treated */
+    MOST,    /* a trial of shops, all but one of them treated */
     LADDER,  /* each column lies above all later ones: step 1 rejects k columns, each later step one */
     RISING,  /* as a ladder, with every column in this order from row to row */
     FALLING,
@@ -39,10 +41,10 @@ struct recipe {
 void make_table(const struct recipe *recipe, size_t number, struct table *table);
 
 /*
- * The trial of a pattern and a number, of the largest shape and at level 1/20: 9 pairs, 16 offers with 7 digits each.
- * With WINNERS every other offer wins, and the rest is noise with no positive sum. With VALLEY every other offer is its
- * neighbour with all signs changed, and the differences of an offer double from pair to pair: from row to row two such
- * offers fall and then rise.
+ * The trial of a pattern and a number, of the most offers and units and at level 1/20: 16 offers with 7 digits each, 9
+ * pairs, and with HALF and MOST 10 shops. Every other offer wins, and the rest is noise with no positive observed
+ * value. With VALLEY every other offer is its neighbour with all signs changed, and the differences of an offer double
+ * from pair to pair: from row to row two such offers fall and then rise.
  */
 void make_trial(enum pattern pattern, size_t k, size_t number, struct trial *trial);
 

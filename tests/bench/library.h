@@ -8,16 +8,21 @@
 #include "baseline.h"
 #include "becardlarder.h"
 
-/* a, b, k, offers and pairs of a trial. */
-enum { FIGURES = 5 };
+/* a, b, k, offers, kind (2 for pairs, 5 for shops), units (pairs or shops) and treated (0 for pairs) of a trial. */
+enum { NUMBERS = 7 };
 
-uint32_t bench_read(const uint8_t *file, size_t file_len, size_t figures[FIGURES], uint32_t codes[MOST_OFFERS],
-                    uint8_t digits[MOST_OFFERS], int32_t differences[MOST_DIFFERENCES]);
+uint32_t bench_read(const uint8_t *file, size_t file_len, size_t numbers[NUMBERS], uint32_t codes[MOST_OFFERS],
+                    uint8_t digits[MOST_OFFERS], int32_t figures[MOST_FIGURES]);
 
 /* `written` is the length of the file. */
-uint32_t bench_write(const size_t figures[FIGURES], const uint32_t codes[MOST_OFFERS],
-                     const uint8_t digits[MOST_OFFERS], const int32_t differences[MOST_DIFFERENCES], uint8_t *out,
+uint32_t bench_write(const size_t numbers[NUMBERS], const uint32_t codes[MOST_OFFERS],
+                     const uint8_t digits[MOST_OFFERS], const int32_t figures[MOST_FIGURES], uint8_t *out,
                      size_t out_len, size_t *written);
+
+/* The table of all offers into the first places of out. */
+uint32_t bench_trial_table(const size_t numbers[NUMBERS], const uint32_t codes[MOST_OFFERS],
+                           const uint8_t digits[MOST_OFFERS], const int32_t figures[MOST_FIGURES], double *out,
+                           size_t out_len);
 
 /* `written` is the length of the text. */
 uint32_t bench_report(const uint8_t *file, size_t file_len, uint8_t *text, size_t text_len, size_t *written);

@@ -6,21 +6,22 @@
 #include "measure.h"
 #include "tasks.h"
 
-enum { MOST_INPUTS = 32, FILES = 16, VALUES = MOST_ROWS * MOST_COLUMNS };
+enum { MOST_INPUTS = 32, TRIALS = 16, VALUES = MOST_ROWS * MOST_COLUMNS };
 
-/* An input: a table, or a file and its trial, whose figures the library takes apart. */
+/* An input: a table, or a trial, with its numbers as the library takes them, and its file. */
 static struct input {
     struct table table;
     struct trial trial;
-    size_t figures[FIGURES];
+    size_t numbers[NUMBERS];
     uint8_t file[LONGEST_FILE];
+    size_t length;
 } inputs[MOST_INPUTS];
 
 static size_t prepared;        /* how many there are, a power of two */
 static size_t turn[BOTH];      /* how many calls each implementation has made */
 static double work[MOST_ROWS]; /* the work buffer of all tables */
 
-static double balanced[BOTH][VALUES]; /* the balanced table that each has made last */
+static double made[BOTH][VALUES]; /* the table that each has made last, a balanced one or a trial's */
 
 /* An answer: its number, the bytes that it fills, and what was read. */
 static struct answer {
@@ -28,7 +29,7 @@ static struct answer {
     uint8_t bytes[LONGEST_REPORT];
     uint32_t adjusted[MOST_COLUMNS];
     struct trial trial;
-    size_t figures[FIGURES];
+    size_t numbers[NUMBERS];
 } answers[BOTH];
 
 /* ---- the calls */
@@ -86,64 +87,84 @@ static void adjusted_library(void)
 static void balanced_baseline(void)
 {
     const struct table *t = &next(BASELINE)->table;
-    accepted(balanced_by_codes(t->values, t->length, t->rows, t->columns, balanced[BASELINE], VALUES), "baseline");
+    accepted(balanced_by_codes(t->values, t->length, t->rows, t->columns, made[BASELINE], VALUES), "baseline");
 }
 
 static void bitwise_baseline(void)
 {
     const struct table *t = &next(BASELINE)->table;
-    accepted(balanced_by_bits(t->values, t->length, t->rows, t->columns, balanced[BASELINE], VALUES), "baseline");
+    accepted(balanced_by_bits(t->values, t->length, t->rows, t->columns, made[BASELINE], VALUES), "baseline");
 }
 
 static void balanced_library(void)
 {
     const struct table *t = &next(LIBRARY)->table;
-    accepted(becardlarder_table_balanced(t->values, t->length, t->rows, t->columns, balanced[LIBRARY], VALUES) == 0,
+    accepted(becardlarder_table_balanced(t->values, t->length, t->rows, t->columns, made[LIBRARY], VALUES) == 0,
              "library");
+}
+
+static void table_baseline(void)
+{
+    table_by_blocks = 1;
+    accepted(table_of_trial(&next(BASELINE)->trial, made[BASELINE], VALUES), "baseline");
+    table_by_blocks = 0;
+}
+
+static void table_library(void)
+{
+    const struct input *in = next(LIBRARY);
+    accepted(bench_trial_table(in->numbers, in->trial.codes, in->trial.digits, in->trial.figures, made[LIBRARY],
+                               VALUES) == 0, "library");
 }
 
 static void verdicts_baseline(void)
 {
+    const struct input *in = next(BASELINE);
     struct answer *a = &answers[BASELINE];
-    accepted(verdicts_of_file(next(BASELINE)->file, LONGEST_FILE, a->bytes, MOST_OFFERS, &a->number), "baseline");
+    accepted(verdicts_of_file(in->file, in->length, a->bytes, MOST_OFFERS, &a->number), "baseline");
 }
 
 static void verdicts_library(void)
 {
+    const struct input *in = next(LIBRARY);
     struct answer *a = &answers[LIBRARY];
-    a->number = becardlarder_trial_verdicts(next(LIBRARY)->file, LONGEST_FILE, a->bytes, MOST_OFFERS);
+    a->number = becardlarder_trial_verdicts(in->file, in->length, a->bytes, MOST_OFFERS);
     accepted(a->number < BECARDLARDER_REFUSED, "library");
 }
 
 static void report_baseline(void)
 {
+    const struct input *in = next(BASELINE);
     struct answer *a = &answers[BASELINE];
-    accepted(report(next(BASELINE)->file, LONGEST_FILE, (char *)a->bytes, LONGEST_REPORT, &a->number), "baseline");
+    accepted(report(in->file, in->length, (char *)a->bytes, LONGEST_REPORT, &a->number), "baseline");
 }
 
-static void doubled_baseline(void)
+static void blocks_baseline(void)
 {
-    table_by_doubling = 1;
+    table_by_blocks = 1;
     report_baseline();
-    table_by_doubling = 0;
+    table_by_blocks = 0;
 }
 
 static void report_library(void)
 {
+    const struct input *in = next(LIBRARY);
     struct answer *a = &answers[LIBRARY];
-    accepted(bench_report(next(LIBRARY)->file, LONGEST_FILE, a->bytes, LONGEST_REPORT, &a->number) == 0, "library");
+    accepted(bench_report(in->file, in->length, a->bytes, LONGEST_REPORT, &a->number) == 0, "library");
 }
 
 static void read_baseline(void)
 {
-    accepted(read_trial(next(BASELINE)->file, LONGEST_FILE, &answers[BASELINE].trial), "baseline");
+    const struct input *in = next(BASELINE);
+    accepted(read_trial(in->file, in->length, &answers[BASELINE].trial), "baseline");
 }
 
 static void read_library(void)
 {
+    const struct input *in = next(LIBRARY);
     struct answer *a = &answers[LIBRARY];
-    accepted(bench_read(next(LIBRARY)->file, LONGEST_FILE, a->figures, a->trial.codes, a->trial.digits,
-                        a->trial.differences) == 0, "library");
+    accepted(bench_read(in->file, in->length, a->numbers, a->trial.codes, a->trial.digits, a->trial.figures) == 0,
+             "library");
 }
 
 static void write_baseline(void)
@@ -156,7 +177,7 @@ static void write_library(void)
 {
     const struct input *in = next(LIBRARY);
     struct answer *a = &answers[LIBRARY];
-    accepted(bench_write(in->figures, in->trial.codes, in->trial.digits, in->trial.differences, a->bytes, LONGEST_FILE,
+    accepted(bench_write(in->numbers, in->trial.codes, in->trial.digits, in->trial.figures, a->bytes, LONGEST_FILE,
                          &a->number) == 0, "library");
 }
 
@@ -169,9 +190,10 @@ const call *calls_of(const struct task *task)
         [MAXIMA] = {maxima_baseline, adjusted_library},
         [BALANCED] = {balanced_baseline, balanced_library},
         [BITWISE] = {bitwise_baseline, balanced_library},
+        [TABLE] = {table_baseline, table_library},
         [VERDICTS] = {verdicts_baseline, verdicts_library},
         [REPORT] = {report_baseline, report_library},
-        [DOUBLED] = {doubled_baseline, report_library},
+        [BLOCKS] = {blocks_baseline, report_library},
         [READING] = {read_baseline, read_library},
         [WRITING] = {write_baseline, write_library},
     };
@@ -180,19 +202,18 @@ const call *calls_of(const struct task *task)
 
 /* ---- the inputs */
 
-static void figures_of(const struct trial *t, size_t out[FIGURES])
+static void numbers_of(const struct trial *t, size_t out[NUMBERS])
 {
-    size_t all[FIGURES] = {t->a, t->b, t->k, t->offers, t->pairs};
+    size_t all[NUMBERS] = {t->a, t->b, t->k, t->offers, t->kind, t->units, t->treated};
     memcpy(out, all, sizeof all);
 }
 
 static void make_file(const struct task *task, size_t number, struct input *in)
 {
-    size_t length;
     make_trial(task->recipe.pattern, task->recipe.k, number, &in->trial);
-    figures_of(&in->trial, in->figures);
-    if (!write_trial(&in->trial, in->file, LONGEST_FILE, &length) || length != LONGEST_FILE)
-        fail("not a largest file", task->name);
+    numbers_of(&in->trial, in->numbers);
+    if (!write_trial(&in->trial, in->file, LONGEST_FILE, &in->length))
+        fail("no file of the trial", task->name);
 }
 
 int runs_table(const struct task *task)
@@ -214,16 +235,22 @@ size_t inputs_of(const struct task *task)
 {
     size_t values = task->recipe.rows * task->recipe.columns;
     if (!of_tables(task))
-        return FILES;
+        return TRIALS;
     return VALUES / values < MOST_INPUTS ? VALUES / values : MOST_INPUTS;
 }
 
-/* What no balanced table has, into every place for one. */
-static void soil_balanced(void)
+/* Whether a task's answer is a table. */
+static int makes_table(const struct task *task)
+{
+    return balances_table(task) || task->kind == TABLE;
+}
+
+/* Into every place for a table what no rank is; places beyond the table have to keep it. */
+static void soil_made(void)
 {
     for (int i = 0; i < BOTH; i++)
         for (size_t n = 0; n < VALUES; n++)
-            balanced[i][n] = -1;
+            made[i][n] = -1;
 }
 
 void prepare(const struct task *task, size_t many)
@@ -241,8 +268,8 @@ void prepare(const struct task *task, size_t many)
         inputs[i].table.work = work;
         inputs[i].table.places = MOST_ROWS;
     }
-    if (balances_table(task)) /* the buffers are there before a call, and its peak memory is not theirs */
-        soil_balanced();
+    if (makes_table(task)) /* the buffers are there before a call, and its peak memory is not theirs */
+        soil_made();
 }
 
 /* ---- the comparison */
@@ -347,7 +374,7 @@ static void check_column(const struct task *task, const struct table *t, size_t 
 {
     uint8_t met[MOST_ROWS + 1] = {0};
     for (size_t g = 0; g < t->rows; g++) {
-        double rank = balanced[LIBRARY][g * t->columns + j];
+        double rank = made[LIBRARY][g * t->columns + j];
         same(1 <= rank && rank <= (double)t->rows, task, "not a rank");
         same(g % 61 != 0 || rank == rank_of(t, g, j), task, "another rank");
         met[(size_t)rank] = 1;
@@ -357,13 +384,29 @@ static void check_column(const struct task *task, const struct table *t, size_t 
 }
 
 /* All places of both, those beyond the table too. */
+static void compare_made(const struct task *task, size_t length)
+{
+    same(memcmp(made[BASELINE], made[LIBRARY], sizeof made[LIBRARY]) == 0, task, "tables differ");
+    for (size_t i = length; i < VALUES; i++)
+        same(made[LIBRARY][i] == -1, task, "places beyond the table are changed");
+}
+
 static struct facts compare_balanced(const struct task *task, const struct table *t)
 {
-    same(memcmp(balanced[BASELINE], balanced[LIBRARY], sizeof balanced[LIBRARY]) == 0, task, "balanced tables differ");
-    for (size_t i = t->length; i < VALUES; i++)
-        same(balanced[LIBRARY][i] == -1, task, "places beyond the table are changed");
+    compare_made(task, t->length);
     for (size_t j = 0; j < t->columns; j++)
         check_column(task, t, j);
+    return (struct facts){0};
+}
+
+/* The tables of both, and the one that is made entry by entry. */
+static struct facts compare_trial_table(const struct task *task, const struct trial *t)
+{
+    static double entries[MOST_TRIAL_ROWS * MOST_OFFERS];
+    size_t length = rows_of(t) * t->offers;
+    compare_made(task, length);
+    same(table_of_trial(t, entries, length), task, "the baseline refuses the trial");
+    same(memcmp(made[LIBRARY], entries, length * sizeof *entries) == 0, task, "not the trial's table");
     return (struct facts){0};
 }
 
@@ -386,10 +429,10 @@ static void check_read(const struct task *task, const struct input *in)
 {
     const struct trial *l = &answers[LIBRARY].trial;
     same(memcmp(&answers[BASELINE].trial, &in->trial, sizeof in->trial) == 0, task, "the baseline reads another trial");
-    same(memcmp(answers[LIBRARY].figures, in->figures, sizeof in->figures) == 0, task, "figures differ");
+    same(memcmp(answers[LIBRARY].numbers, in->numbers, sizeof in->numbers) == 0, task, "numbers differ");
     same(memcmp(l->codes, in->trial.codes, sizeof l->codes) == 0, task, "codes differ");
     same(memcmp(l->digits, in->trial.digits, sizeof l->digits) == 0, task, "digits differ");
-    same(memcmp(l->differences, in->trial.differences, sizeof l->differences) == 0, task, "differences differ");
+    same(memcmp(l->figures, in->trial.figures, sizeof l->figures) == 0, task, "figures differ");
 }
 
 static struct facts compare_file(const struct task *task, const struct input *in)
@@ -398,7 +441,8 @@ static struct facts compare_file(const struct task *task, const struct input *in
     if (task->kind == READING)
         check_read(task, in);
     if (task->kind == WRITING)
-        same(memcmp(answers[LIBRARY].bytes, in->file, LONGEST_FILE) == 0, task, "another file is written");
+        same(answers[LIBRARY].number == in->length && memcmp(answers[LIBRARY].bytes, in->file, in->length) == 0, task,
+             "another file is written");
     if (task->kind == READING || task->kind == WRITING)
         return (struct facts){0};
     run_trial(&in->trial, &run);
@@ -409,8 +453,8 @@ static struct facts compare_one(const struct task *task, const struct input *in)
 {
     size_t stack[BOTH];
     memset(answers, 0, sizeof answers);
-    if (balances_table(task))
-        soil_balanced();
+    if (makes_table(task))
+        soil_made();
     for (int i = 0; i < BOTH; i++) {
         soil_work(balances_table(task) ? 0 : in->table.rows);
         stack[i] = stack_of(calls_of(task)[i]);
@@ -421,6 +465,7 @@ static struct facts compare_one(const struct task *task, const struct input *in)
     struct facts facts = runs_table(task)       ? compare_run(task, &in->table)
                          : balances_table(task) ? compare_balanced(task, &in->table)
                          : of_tables(task)      ? compare_adjusted(task, &in->table)
+                         : makes_table(task)    ? compare_trial_table(task, &in->trial)
                                                 : compare_file(task, in);
     if (runs_table(task))
         check_recipe(task, &facts);

@@ -12,9 +12,10 @@ enum kind {
     MAXIMA,   /* the same, against a baseline that counts the rows' maxima first */
     BALANCED, /* its balanced table */
     BITWISE,  /* the same, against a baseline that sorts by all bits of the values */
-    VERDICTS, /* the call for C on a largest file */
+    TABLE,    /* the table of a trial, by blocks of rows in both */
+    VERDICTS, /* the call for C on a file */
     REPORT,   /* its report */
-    DOUBLED,  /* its report, against a baseline that makes its table by doubling too */
+    BLOCKS,   /* its report, against a baseline that makes its table by blocks too */
     READING,
     WRITING,
     KINDS
@@ -25,7 +26,7 @@ struct task {
     int grows;         /* within a group: time is compared with the task before */
     const char *name;
     enum kind kind;
-    struct recipe recipe; /* of a file only pattern and k; of a balanced table no k */
+    struct recipe recipe; /* of a trial only pattern and k; of a balanced table no k */
 };
 
 /* The two implementations, where something is said of each. */
@@ -43,7 +44,7 @@ struct facts {
 int runs_table(const struct task *task);
 int balances_table(const struct task *task);
 
-/* How many different inputs of a task are called by turns: tables of 131,072 values together, and 16 files. */
+/* How many different inputs of a task are called by turns: tables of 131,072 values together, and 16 trials. */
 size_t inputs_of(const struct task *task);
 
 /* Makes so many inputs, which the calls below take by turns. */

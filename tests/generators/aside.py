@@ -1,8 +1,8 @@
-"""Trials with offers that never sold, which are set aside (document 02, §4).
+"""Trials with offers that have not been tested, which are set aside (document 02, §4 and §6).
 
 How many offers remain is planned: none, below k, k, above k, all but one. Those that remain are of any
-style, and never 0 in every pair. Some are 0 in every pair but one, or have differences that cancel out
-in the observed row: such an offer is not set aside.
+style, and never such that they are set aside. Some are so in every pair or shop but one, or have figures that
+cancel out in the observed row: such an offer is not set aside.
 """
 
 from itertools import cycle, product
@@ -11,39 +11,23 @@ from reference.refusals import MAX_DIFFERENCE
 from reference.trial import Trial, make_trial
 
 from . import trials
-from .trials import W_OFFERS, level, printed_codes
+from .designs import cancelling, label, raising, sold_once, some_paired, some_unpaired, untested
+from .trials import W_OFFERS, trial_of
 
 
-def sold_once(rng, pairs) -> list:
-    """0 in every pair but one."""
-    cents = [0] * pairs
-    cents[rng.randrange(pairs)] = rng.choice((1, -1, 5, 2 ** 26, MAX_DIFFERENCE, -MAX_DIFFERENCE))
-    return cents
+def sold_little(rng, offers, design):
+    return [rng.choice((sold_once, cancelling))(design, rng) for _ in range(offers)]
 
 
-def cancelling(rng, pairs) -> list:
-    """Differences, not all of them 0, whose sum is 0; one pair has none such."""
-    if pairs == 1:
-        return sold_once(rng, 1)
-    size = rng.choice((1, 5, 900, MAX_DIFFERENCE // 8))
-    cents = [size] + [rng.randint(-size, size) for _ in range(pairs - 2)]
-    cents.append(-sum(cents))
-    rng.shuffle(cents)
-    return cents
+def cancelled(rng, offers, design):
+    return [cancelling(design, rng) for _ in range(offers)]
 
 
-def sold_little(rng, offers, pairs):
-    return [rng.choice((sold_once, cancelling))(rng, pairs) for _ in range(offers)]
-
-
-def cancelled(rng, offers, pairs):
-    return [cancelling(rng, pairs) for _ in range(offers)]
-
-
-def milk_and_saffron(rng, offers, pairs):
+@raising
+def milk_and_saffron(rng, offers, units):
     """Some cents, some thousand, some million: balanced verdicts differ from plain ones."""
     sizes = [rng.choice((1, 40, 3_000, 20_000_000)) for _ in range(offers)]
-    return [[size * rng.randint(-1, 6) for _ in range(pairs)] for size in sizes]
+    return [[size * rng.randint(-1, 6) for _ in range(units)] for size in sizes]
 
 
 STYLES = (milk_and_saffron, sold_little, trials.winners, cancelled, trials.ladder,
@@ -51,13 +35,17 @@ STYLES = (milk_and_saffron, sold_little, trials.winners, cancelled, trials.ladde
           trials.opposite_offers, trials.extreme, trials.powers, trials.wide)
 
 
-def planned(rng, offers, pairs, k, left, style) -> Trial:
+def planned_figures(rng, offers, design, left, style) -> list:
     """So many offers are left, in any places; all others are set aside."""
-    differences = [[0] * pairs for _ in range(offers)]
+    figures = [untested(design, rng) for _ in range(offers)]
     places = rng.sample(range(offers), left)
-    for place, cents in zip(places, style(rng, left, pairs), strict=True):
-        differences[place] = cents if any(cents) else sold_once(rng, pairs)
-    return make_trial(level(rng, 2 ** pairs), k, list(zip(printed_codes(rng, offers), differences)))
+    for place, cents in zip(places, style(rng, left, design), strict=True):
+        figures[place] = sold_once(design, rng) if design.untested(cents) else cents
+    return figures
+
+
+def planned(rng, offers, design, k, left, style) -> Trial:
+    return trial_of(rng, design, k, planned_figures(rng, offers, design, left, style))
 
 
 def counts_left(offers, k) -> list:
@@ -66,21 +54,25 @@ def counts_left(offers, k) -> list:
 
 
 def aside_trials(rng, sizes):
-    """(name, trial) for each of these (offers, pairs): every k with every plan, the styles in turn."""
+    """(name, trial) for each of these (offers, design): every k with every plan, the styles in turn."""
     styles = cycle(STYLES)
-    for offers, pairs in sizes:
+    for offers, design in sizes:
         for k in range(1, min(4, offers) + 1):
             for left in counts_left(offers, k):
                 style = next(styles)
-                yield (f"{style.__name__}-{offers}x{pairs}-k{k}-left{left}",
-                       planned(rng, offers, pairs, k, left, style))
+                yield (f"{style.__name__}-{offers}x{label(design)}-k{k}-left{left}",
+                       planned(rng, offers, design, k, left, style))
 
 
-def some_aside_trial(rng, most_offers=16, most_pairs=9) -> Trial:
+def some_aside_trial(rng, most_offers=16, most_units=9, design_of=some_paired) -> Trial:
     """A trial of any shape with offers set aside."""
-    offers, pairs = rng.randint(1, most_offers), rng.randint(1, most_pairs)
+    offers, design = rng.randint(1, most_offers), design_of(rng, most_units)
     k = rng.randint(1, min(4, offers))
-    return planned(rng, offers, pairs, k, rng.randrange(offers), rng.choice(STYLES))
+    return planned(rng, offers, design, k, rng.randrange(offers), rng.choice(STYLES))
+
+
+def some_aside_shop_trial(rng, most_offers=16, most_shops=10) -> Trial:
+    return some_aside_trial(rng, most_offers, most_shops, some_unpaired)
 
 
 def sold_somewhere():

@@ -12,10 +12,11 @@ from itertools import chain, cycle, islice, product
 from reference.balanced import full_run as run_balanced
 from reference.run import Run
 from reference.table import full_run as run_table
-from reference.trial import Trial, full_run as run_trial, make_trial
-from reference.trialfile import write
+from reference.trial import Trial, full_run as run_trial, make_trial, rows_of
+from reference.trialfile import LONGEST, write
 
 from .balanced import run_case
+from .designs import label, raised, raising, some_paired, some_unpaired, untested
 from .files import LONGEST_REPORT, report_room
 from .kinds import FileCase, RecordCase, StepCase, TableCase
 from .runs import walked
@@ -175,73 +176,80 @@ def given_runs(rng, how_many):
                        case.values, case.work_room)
 
 
-# ---- trials: a style gives the differences of the offers that are not set aside
+# ---- trials: a style gives the figures of the offers that are not set aside
 
 
-def few_sums(rng, offers, pairs):
-    return [[rng.choice((-1, 0, 1, 2)) for _ in range(pairs)] for _ in range(offers)]
+@raising
+def few_sums(rng, offers, units):
+    return [[rng.choice((-1, 0, 1, 2)) for _ in range(units)] for _ in range(offers)]
 
 
-def rising(rng, offers, pairs):
-    """No difference below 0: the observed row has the largest sums."""
-    return [[rng.choice((0, 1, 1, 2)) for _ in range(pairs)] for _ in range(offers)]
+@raising
+def rising(rng, offers, units):
+    """None against the observed row: it has the largest sums."""
+    return [[rng.choice((0, 1, 1, 2)) for _ in range(units)] for _ in range(offers)]
 
 
-def alike(rng, offers, pairs):
+def alike(rng, offers, design):
     """Each offer is one of three."""
-    three = [*rising(rng, 2, pairs), *few_sums(rng, 1, pairs)]
+    three = [*rising(rng, 2, design), *few_sums(rng, 1, design)]
     return [rng.choice(three) for _ in range(offers)]
 
 
-def opposite(rng, offers, pairs):
+def opposite(rng, offers, design):
     """Each offer is one of two, or that one with all signs changed."""
-    two = [*rising(rng, 1, pairs), *few_sums(rng, 1, pairs)]
+    two = [*rising(rng, 1, design), *few_sums(rng, 1, design)]
     return [[cent * sign for cent in rng.choice(two)] for sign in rng.choices((1, 1, -1), k=offers)]
 
 
-def scaled(rng, offers, pairs):
+def scaled(rng, offers, design):
     """Few sums on three scales: the offers of the largest one are rejected first."""
     return [[cent * size for cent in cents] for cents, size
-            in zip(rising(rng, offers, pairs), rng.choices((1, 1, 2, 4), k=offers))]
+            in zip(rising(rng, offers, design), rng.choices((1, 1, 2, 4), k=offers))]
 
 
 TRIAL_STYLES = (few_sums, scaled, alike, rising, opposite, scaled)
 
 
-def drawn_trial(rng, style, offers, pairs, k, left) -> Trial:
+def drawn_trial(rng, style, offers, design, k, left) -> Trial:
     """So many offers are left, in any places; at a level of some rows."""
-    differences = [[0] * pairs for _ in range(offers)]
-    for place, cents in zip(rng.sample(range(offers), left), style(rng, left, pairs), strict=True):
-        differences[place] = cents if any(cents) else [1] * pairs
-    rows = 2 ** pairs
-    level = rng.randint(1, max(1, rows // 3)), rows
-    return make_trial(level, k, list(zip(printed_codes(rng, offers), differences)))
+    figures = [untested(design, rng) for _ in range(offers)]
+    for place, cents in zip(rng.sample(range(offers), left), style(rng, left, design), strict=True):
+        figures[place] = raised(design, [1] * design.units) if design.untested(cents) else cents
+    level = rng.randint(1, max(1, design.rows // 3)), design.rows
+    trial = make_trial(level, k, list(zip(printed_codes(rng, offers), figures)))
+    return replace(trial, design=design)
 
 
-def bar_trials(rng, each, most_offers, most_pairs):
+def bar_trials(rng, each, most_offers, most_units, design_of=some_paired):
     """(name, trial): so many of each style for each k, every other one with offers set aside."""
     for number, (_, k, style) in enumerate(product(range(each), (1, 2, 3, 4), TRIAL_STYLES)):
-        offers, pairs = rng.randint(k + 3, most_offers), rng.randint(2, most_pairs)
+        offers, design = rng.randint(k + 3, most_offers), design_of(rng, most_units, 2)
         left = offers if number % 2 else rng.randint(k + 1, offers - 1)
-        trial = with_steps(lambda: drawn_trial(rng, style, offers, pairs, k, left), run_trial,
+        trial = with_steps(lambda: drawn_trial(rng, style, offers, design, k, left), run_trial,
                            STEPS[number % len(STEPS)])
-        yield f"{style.__name__}-{offers}x{pairs}-k{k}-left{left}-{number}", trial
+        yield f"{style.__name__}-{offers}x{label(design)}-k{k}-left{left}-{number}", trial
+
+
+def both_kinds(rng, pairs, shops):
+    """Trials of pairs, then of shops: how many of each, the most offers, the most pairs or shops."""
+    return chain(bar_trials(rng, *pairs), bar_trials(rng, *shops, some_unpaired))
 
 
 # ---- cases
 
 
 def bar_file_cases(rng):
-    for name, trial in bar_trials(rng, 4, 10, 5):
+    for name, trial in both_kinds(rng, (4, 10, 5), (1, 9, 6)):
         data = write(trial)
         yield FileCase(f"bar-file-{name}", data, trial.offers, report_room(rng, data))
 
 
 def bar_record_cases(rng):
     """Plain and balanced full runs."""
-    for name, trial in bar_trials(rng, 2, 8, 4):
-        rows = 2 ** trial.pairs
-        yield RecordCase(f"bar-record-{name}", trial, 652, rows * trial.offers, rows)
+    for name, trial in both_kinds(rng, (2, 8, 4), (1, 8, 5)):
+        rows = rows_of(trial)
+        yield RecordCase(f"bar-record-{name}", trial, LONGEST, rows * trial.offers, rows)
 
 
 def bar_table_cases(rng):
@@ -267,9 +275,9 @@ def bar_balanced_cases(rng):
 
 def further_bar_files(rng):
     """Larger trials, up to the largest."""
-    for name, trial in bar_trials(rng, 10, 16, 6):
+    for name, trial in both_kinds(rng, (10, 16, 6), (10, 16, 8)):
         yield FileCase(f"further-bar-file-{name}", write(trial), 16, LONGEST_REPORT)
-    for name, trial in bar_trials(rng, 1, 11, 9):
+    for name, trial in both_kinds(rng, (1, 11, 9), (1, 11, 10)):
         yield FileCase(f"further-bar-long-{name}", write(trial), 16, LONGEST_REPORT)
 
 

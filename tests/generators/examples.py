@@ -1,12 +1,13 @@
-"""The examples of document 01 by name, those with a star and those without; and trials with offers set aside."""
+"""The examples of document 01 by name, starred and not; trials with offers set aside; trials of shops."""
 
 from dataclasses import replace
 from itertools import product
 
-from reference.trial import make_trial, table_of
-from reference.trialfile import bytes_of, write
+from reference.designs import Paired
+from reference.trial import make_trial, rows_of, table_of
+from reference.trialfile import LONGEST, bytes_of, write
 
-from .files import LONGEST_REPORT, W
+from .files import LONGEST_REPORT, SHOPS, W
 from .kinds import BalancedRunCase, FileCase, RecordCase, TableCase, WalkCase
 from .trials import W_OFFERS
 
@@ -23,6 +24,19 @@ ASIDE = {
     "cancelling": make_trial((1, 4), 2, [("5", (5, -5, 0)), ("04711", (0, 0, 0)), ("3", (3, -1, -2))]),
     "once": make_trial((1, 2), 1, [("1", (0, 0, 1)), ("04711", (0, 0, 0)), ("2", (-1, 0, 0))]),
 }
+# Document 02, §6: shops without partners. Equal figures in all shops, zeros or not; equal ones in all but one; figures
+# that are larger in the shops that are not treated; all but one of the shops treated.
+UNPAIRED = {
+    "4-of-2": SHOPS,
+    "4-of-2-1-3": replace(SHOPS, b=3),
+    "4-of-2-k2": replace(SHOPS, a=1, b=2, k=2),
+    "2-of-1": make_trial((1, 2), 1, [("0042", (3, 1)), ("7", (1, 3)), ("04711", (5, 5))], 1),
+    "aside": make_trial((1, 3), 1, [("0042", (9, 7, 2, 4)), ("11", (6, 6, 6, 6)), ("12", (0, 0, 0, 0)),
+                                    ("13", (6, 6, 6, 7)), ("7", (3, -1, 5, 1))], 2),
+    "few": make_trial((1, 2), 2, [("0042", (-1, -1, -1)), ("7", (2, 0, 1)), ("04711", (0, 0, 0))], 1),
+    "all-aside": make_trial((1, 2), 2, [("0042", (8, 8, 8)), ("7", (-3, -3, -3))], 2),
+    "all-but-one": make_trial((1, 4), 1, [("0042", (9, 8, 7, 1)), ("7", (1, 2, 3, 9))], 3),
+}
 
 
 def example_cases(_rng):
@@ -30,6 +44,7 @@ def example_cases(_rng):
     yield from starred()
     yield from unstarred()
     yield from aside()
+    yield from unpaired()
 
 
 def starred():
@@ -56,11 +71,11 @@ def unstarred():
     for offers, pairs in ((1, 9), (1, 10), (16, 1), (17, 1), (16, 9)):
         yield FileCase(f"example-{offers}-offers-{pairs}-pairs", shaped(offers, pairs), 16,
                        LONGEST_REPORT)
-    for change in (dict(pairs=9), dict(pairs=10), dict(offers=16), dict(offers=17)):
-        name = "-".join(f"{field}-{value}" for field, value in change.items())
+    for name, change in (("pairs-9", dict(design=Paired(9))), ("pairs-10", dict(design=Paired(10))),
+                         ("offers-16", dict(offers=16)), ("offers-17", dict(offers=17))):
         codes = tuple(range(16))
         trial = replace(W, **{**change, "codes": codes, "digits": (2,) * 16})
-        yield RecordCase(f"example-record-{name}", trial, 652, 8192, 512)
+        yield RecordCase(f"example-record-{name}", trial, LONGEST, 8192, 512)
     for code in (9_999_999, 10_000_000):
         trial = make_trial((1, 2), 1, [(str(code), (1,))])
         trial = replace(trial, digits=(7,) + trial.digits[1:])
@@ -83,6 +98,14 @@ def aside():
         room = dict(out_room=24) if kind is BalancedRunCase else {}
         yield kind(f"example-aside-{kind.__name__}", tuple(table_of(ASIDE["w"])), 8, 3, 1, 1, 4, 0, 8,
                    **room)
+
+
+def unpaired():
+    """Trials of shops, as files and as records."""
+    for name, trial in UNPAIRED.items():
+        data, rows = write(trial), rows_of(trial)
+        yield FileCase(f"example-shops-{name}", data, trial.offers, LONGEST_REPORT)
+        yield RecordCase(f"example-shops-record-{name}", trial, len(data), rows * trial.offers, rows)
 
 
 def shaped(offers, pairs):

@@ -7,6 +7,7 @@ refusals.py   the refusal numbers and the conditions that several calls share
 method.py     e, k-max and its offer, c(K), put-back sets, a step's record, the stopping rule, counts
 table.py      a lent table: its refusals and its full run
 run.py        a run taken step by step: begin, step, the clauses of refusal 14
+designs.py    trials of pairs, and of shops without partners: all in which these differ
 trial.py      the trial record: its refusals, its table, its full run
 aside.py      offers of a trial that are set aside, and the run of those that remain
 trialfile.py  reader and writer of trial files

@@ -1,4 +1,4 @@
-"""Offers that never sold (document 02, §4): set aside before step 1.
+"""Offers that have not been tested (document 02, §4 and §6): set aside before step 1.
 
 Their columns are taken out of the trial's table, the method goes over the smaller table, and its answers
 go back to their places in file order; so do the offers that the records name (§5). Tables that are handed
@@ -10,11 +10,6 @@ from dataclasses import replace
 from . import method
 from .table import Aside, FullRun, Kept
 from .table import full_run as run_table
-
-
-def remaining(offers) -> list:
-    """The positions of the offers that remain; an offer is given by its differences, 0 in every pair or not."""
-    return [i for i, differences in enumerate(offers) if any(differences)]
 
 
 def table_left(values, columns: int, left) -> list:

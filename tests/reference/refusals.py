@@ -1,10 +1,11 @@
-"""Refusal numbers and shared conditions (document 01, "Turned away because of ...")."""
+"""Refusal numbers and shared conditions (document 01, "Turned away because of ..."; document 02, §6)."""
 
 from dataclasses import dataclass
 
 MAX_B = 16_383
 MAX_K = 4
 MAX_PAIRS = 9
+MIN_SHOPS, MAX_SHOPS = 2, 10
 MAX_OFFERS = 16
 MAX_ROWS = 4_096
 MAX_COLUMNS = 32
@@ -25,12 +26,11 @@ def breaks_3(a: int, b: int) -> bool:
     return a == 0 or b == 0 or a >= b or b > MAX_B
 
 
-def trial_breaks_4(k: int, offers: int, pairs: int) -> bool:
+def trial_breaks_4(k: int, offers: int, design) -> bool:
     """Refusal 4 for a trial: a count or k outside its range, or k above the offers."""
-    return not (1 <= pairs <= MAX_PAIRS
-                and 1 <= offers <= MAX_OFFERS
-                and 1 <= k <= MAX_K
-                and k <= offers)
+    return design.breaks_4() or not (1 <= offers <= MAX_OFFERS
+                                     and 1 <= k <= MAX_K
+                                     and k <= offers)
 
 
 def table_breaks_4(rows: int, columns: int, k: int) -> bool:

@@ -1,4 +1,4 @@
-"""The report program's text (document 01, "Report and C call"; document 02, §4 and §5)."""
+"""The report program's text (document 01, "Report and C call"; document 02, §4 to §6)."""
 
 from .method import level_rows
 from .refusals import Refused, fill, too_short
@@ -28,7 +28,7 @@ def report_lines(trial: Trial, run: FullRun) -> list:
     """The lines of an accepted trial's report."""
     rows = rows_of(trial)
     e = level_rows(rows, trial.a, trial.b)
-    lines = [f"trial {trial.pairs} {trial.offers} {trial.k} {e} {rows}"]
+    lines = [f"trial {trial.design.units} {trial.offers} {trial.k} {e} {rows}"]
     for record in run.records:
         code = printed_code(trial, record.offer - 1)
         lines.append(f"step {record.step} {int(record.critical_value)} {record.row} {code}")

@@ -1,45 +1,48 @@
-"""The trial record (document 01, "From pairs to a table")."""
+"""The trial record (document 01, "From pairs to a table"; document 02, §6)."""
 
-from dataclasses import dataclass
+from dataclasses import dataclass, replace
 
 from . import aside
-from .refusals import (MAX_DIFFERENCE, MAX_DIGITS, MAX_OFFERS, MAX_PAIRS, Refused, breaks_3,
+from .designs import Paired, Unpaired
+from .refusals import (MAX_DIFFERENCE, MAX_DIGITS, MAX_OFFERS, MAX_SHOPS, Refused, breaks_3,
                        fill, too_short, trial_breaks_4)
 
 CODE_PLACES = MAX_OFFERS
-DIFFERENCE_PLACES = MAX_OFFERS * MAX_PAIRS
+FIGURE_PLACES = MAX_OFFERS * MAX_SHOPS
 
 
 @dataclass(frozen=True)
 class Trial:
     """A trial as a record; a record can hold anything, accepted or not.
 
-    `codes` and `digits` have 16 places, `differences` 144: offer i and pair j,
-    both from 0, stand at i x pairs + j. Nothing looks at places beyond the counts.
+    `codes` and `digits` have 16 places, `figures` 160: offer i and pair or shop j,
+    both from 0, stand at i x units + j. Nothing looks at places beyond the counts.
     """
 
     a: int
     b: int
     k: int
     offers: int
-    pairs: int
+    design: Paired | Unpaired
     codes: tuple
     digits: tuple
-    differences: tuple
+    figures: tuple
 
 
-def make_trial(level, k, offers) -> Trial:
-    """A record from a level (a, b), k and a list of (printed code, differences).
+def make_trial(level, k, offers, treated=None) -> Trial:
+    """A record from a level (a, b), k and a list of (printed code, figures).
 
-    Unused places hold zero, as in a read trial. Nothing is checked.
+    The figures are of pairs, or of shops of which the first so many are treated. Unused places
+    hold zero, as in a read trial. Nothing is checked.
     """
     codes = [int(text) for text, _ in offers]
     digits = [len(text) for text, _ in offers]
-    cents = [difference for _, differences in offers for difference in differences]
-    pairs = len(offers[0][1]) if offers else 0
-    return Trial(level[0], level[1], k, len(offers), pairs,
+    cents = [figure for _, figures in offers for figure in figures]
+    units = len(offers[0][1]) if offers else 0
+    design = Paired(units) if treated is None else Unpaired(units, treated)
+    return Trial(level[0], level[1], k, len(offers), design,
                  padded(codes, CODE_PLACES), padded(digits, CODE_PLACES),
-                 padded(cents, DIFFERENCE_PLACES))
+                 padded(cents, FIGURE_PLACES))
 
 
 def padded(values, places: int) -> tuple:
@@ -49,15 +52,18 @@ def padded(values, places: int) -> tuple:
 
 def cleared(trial: Trial) -> Trial:
     """The same trial with zero in the places that its counts don't use."""
-    used = trial.offers * trial.pairs
-    return Trial(trial.a, trial.b, trial.k, trial.offers, trial.pairs,
-                 padded(trial.codes[:trial.offers], CODE_PLACES),
-                 padded(trial.digits[:trial.offers], CODE_PLACES),
-                 padded(trial.differences[:used], DIFFERENCE_PLACES))
+    return replace(trial, codes=padded(trial.codes[:trial.offers], CODE_PLACES),
+                   digits=padded(trial.digits[:trial.offers], CODE_PLACES),
+                   figures=padded(used_figures(trial), FIGURE_PLACES))
+
+
+def used_figures(trial: Trial) -> tuple:
+    """Those that the counts speak of, offer by offer."""
+    return trial.figures[:trial.offers * trial.design.units]
 
 
 def same(one: Trial, other: Trial) -> bool:
-    """Level as written, shape, codes, printed digits and differences agree."""
+    """Level as written, shape and its kind, codes, printed digits and figures agree."""
     return cleared(one) == cleared(other)
 
 
@@ -66,15 +72,17 @@ def breaks_5(code: int, digits: int) -> bool:
     return not 1 <= digits <= MAX_DIGITS or len(str(code)) > digits
 
 
-def breaks_7(difference: int) -> bool:
-    """Refusal 7: a difference outside its range."""
-    return not -MAX_DIFFERENCE <= difference <= MAX_DIFFERENCE
+def breaks_7(figure: int) -> bool:
+    """Refusal 7: a difference, or the figure of a shop, outside its range."""
+    return not -MAX_DIFFERENCE <= figure <= MAX_DIFFERENCE
 
 
 def trial_refusal(trial: Trial):
-    """A record's refusal: 4, 3, then offers (at each, 5 before 6), then differences."""
-    if trial_breaks_4(trial.k, trial.offers, trial.pairs):
+    """A record's refusal: 4, 15, 3, then offers (at each, 5 before 6), then figures."""
+    if trial_breaks_4(trial.k, trial.offers, trial.design):
         return 4
+    if trial.design.breaks_15():
+        return 15
     if breaks_3(trial.a, trial.b):
         return 3
     for i in range(trial.offers):
@@ -82,34 +90,31 @@ def trial_refusal(trial: Trial):
             return 5
         if trial.codes[i] in trial.codes[:i]:
             return 6
-    if any(breaks_7(d) for d in trial.differences[:trial.offers * trial.pairs]):
+    if any(map(breaks_7, used_figures(trial))):
         return 7
     return None
 
 
 def rows_of(trial: Trial) -> int:
-    """M = 2^n."""
-    return 2 ** trial.pairs
+    """M."""
+    return trial.design.rows
 
 
-def differences_of(trial: Trial, offer: int) -> tuple:
-    """The n differences of an offer (from 0)."""
-    return trial.differences[offer * trial.pairs:(offer + 1) * trial.pairs]
+def offer_figures(trial: Trial, offer: int) -> tuple:
+    """The figures of an offer (from 0)."""
+    units = trial.design.units
+    return trial.figures[offer * units:(offer + 1) * units]
 
 
 def remaining(trial: Trial) -> list:
-    """The offers (from 0) that are not set aside (document 02, §4)."""
-    return aside.remaining(differences_of(trial, i) for i in range(trial.offers))
-
-
-def entry(differences, row: int) -> float:
-    """The sum of the differences, the sign of pair j (from 0) changed if bit j of the row is 1."""
-    return float(sum(-d if row >> j & 1 else d for j, d in enumerate(differences)))
+    """The offers (from 0) that are not set aside (document 02, §4 and §6)."""
+    return [i for i in range(trial.offers) if not trial.design.untested(offer_figures(trial, i))]
 
 
 def _table_values(trial: Trial) -> list:
-    offers = [differences_of(trial, i) for i in range(trial.offers)]
-    return [entry(offer, row) for row in range(rows_of(trial)) for offer in offers]
+    offers = [offer_figures(trial, i) for i in range(trial.offers)]
+    return [float(trial.design.entry(figures, row)) for row in range(rows_of(trial))
+            for figures in offers]
 
 
 def table_of(trial: Trial, buffer=None):

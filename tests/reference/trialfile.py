@@ -1,11 +1,12 @@
-"""Reader and writer of trial files (document 01, "The trial file")."""
+"""Reader and writer of trial files (document 01, "The trial file"; document 02, §6)."""
 
+from .designs import DESIGNS
 from .refusals import Refused, breaks_3, fill, too_short, trial_breaks_4
-from .trial import (CODE_PLACES, DIFFERENCE_PLACES, Trial, padded, breaks_5, breaks_7,
-                    trial_refusal)
+from .trial import (CODE_PLACES, FIGURE_PLACES, Trial, padded, breaks_5, breaks_7, trial_refusal,
+                    used_figures)
 
-LEVEL, SHAPE, OFFER, DIFFERENCE, END = 1, 2, 3, 4, 15
-LONGEST = 4 * (1 + 1 + CODE_PLACES + DIFFERENCE_PLACES + 1)  # 652 bytes
+LEVEL, OFFER, FIGURE, END = 1, 3, 4, 15  # the kinds of word but that of the shape
+LONGEST = 4 * (1 + 1 + CODE_PLACES + FIGURE_PLACES + 1)  # 716 bytes
 
 
 class _TurnedAway(Exception):
@@ -41,26 +42,38 @@ def _refuse_if(condition: bool, number: int) -> None:
         raise _TurnedAway(number)
 
 
+def _word(words, place: int, kinds) -> tuple:
+    """The kind of the word at its place and its bits 27-0; refusal 2 if it is missing or of no such kind."""
+    _refuse_if(place >= len(words) or words[place] >> 28 not in kinds, 2)
+    return words[place] >> 28, words[place] & 0x0FFF_FFFF
+
+
 def _content(words, place: int, kind: int) -> int:
-    """Bits 27-0 of the word at its place; refusal 2 if it is missing or of another kind."""
-    _refuse_if(place >= len(words) or words[place] >> 28 != kind, 2)
-    return words[place] & 0x0FFF_FFFF
+    """Bits 27-0 of the word at its place, of this kind."""
+    return _word(words, place, (kind,))[1]
 
 
 def _read_words(words) -> Trial:
     level = _content(words, 0, LEVEL)
     a, b = level >> 14, level & 0x3FFF
     _refuse_if(breaks_3(a, b), 3)
-    shape = _content(words, 1, SHAPE)
-    k, offers, pairs = shape >> 16 & 0xFF, shape >> 8 & 0xFF, shape & 0xFF
-    _refuse_if(shape >> 24 != 0 or trial_breaks_4(k, offers, pairs), 4)
+    k, offers, design = _read_shape(words, 1)
     codes, digits = _read_offers(words, 2, offers)
-    differences = _read_differences(words, 2 + offers, offers * pairs)
-    end = 2 + offers + offers * pairs
+    figures = _read_figures(words, 2 + offers, offers * design.units)
+    end = 2 + offers + offers * design.units
     count = _content(words, end, END)
     _refuse_if(count != end or len(words) != end + 1, 8)
-    return Trial(a, b, k, offers, pairs, padded(codes, CODE_PLACES),
-                 padded(digits, CODE_PLACES), padded(differences, DIFFERENCE_PLACES))
+    return Trial(a, b, k, offers, design, padded(codes, CODE_PLACES),
+                 padded(digits, CODE_PLACES), padded(figures, FIGURE_PLACES))
+
+
+def _read_shape(words, place: int) -> tuple:
+    """k, offers and the design: 4 is judged before 15."""
+    kind, content = _word(words, place, DESIGNS)
+    k, offers, design, spare = DESIGNS[kind].of_content(content)
+    _refuse_if(spare != 0 or trial_breaks_4(k, offers, design), 4)
+    _refuse_if(design.breaks_15(), 15)
+    return k, offers, design
 
 
 def _read_offers(words, first: int, offers: int):
@@ -75,14 +88,14 @@ def _read_offers(words, first: int, offers: int):
     return codes, digits
 
 
-def _read_differences(words, first: int, how_many: int) -> list:
-    differences = []
+def _read_figures(words, first: int, how_many: int) -> list:
+    figures = []
     for place in range(first, first + how_many):
-        content = _content(words, place, DIFFERENCE)
-        difference = content - 2 ** 28 if content >= 2 ** 27 else content
-        _refuse_if(breaks_7(difference), 7)
-        differences.append(difference)
-    return differences
+        content = _content(words, place, FIGURE)
+        figure = content - 2 ** 28 if content >= 2 ** 27 else content
+        _refuse_if(breaks_7(figure), 7)
+        figures.append(figure)
+    return figures
 
 
 def write(trial: Trial, buffer=None):
@@ -99,9 +112,9 @@ def write(trial: Trial, buffer=None):
 
 def _trial_words(trial: Trial) -> list:
     words = [LEVEL << 28 | trial.a << 14 | trial.b,
-             SHAPE << 28 | trial.k << 16 | trial.offers << 8 | trial.pairs]
+             trial.design.KIND << 28 | trial.design.content(trial.k, trial.offers)]
     for i in range(trial.offers):
         words.append(OFFER << 28 | trial.digits[i] << 24 | trial.codes[i])
-    for difference in trial.differences[:trial.offers * trial.pairs]:
-        words.append(DIFFERENCE << 28 | difference % 2 ** 28)
+    for figure in used_figures(trial):
+        words.append(FIGURE << 28 | figure % 2 ** 28)
     return words + [END << 28 | len(words)]

@@ -1,6 +1,7 @@
 -- What each call leaves, from what it asks for: the number, a place that is left alone where the call is refused, and one that is given a part where it is accepted.
 --   read-number, read-kept, read-given           of `bench_read`
 --   answer-moved, buffer-moved                   what writing answers and leaves, of an equal trial
+--   table-moved, places-moved                    what making a table answers and leaves, of an equal trial
 --   write-number, write-kept, write-given        of `bench_write`
 --   render-number, render-kept, render-given     of `bench_report`
 --   run-number, run-kept, run-given              of `bench_table`
@@ -16,6 +17,7 @@ use Rattle.runs.specs.declared.FullRun.{FullRun}
 use Rattle.stepdown.specs.Refusals.{tableRunChecks, tableRunRefusal}
 use Rattle.stepdown.specs.Answers.{fullAnswer}
 use Rattle.trial.specs.Record.{blank}
+use Rattle.trial.specs.Lent.{tableCallRefusal, tableBuffer}
 use Rattle.trial.specs.declared.Trial.{Trial}
 use Rattle.words.specs.Words.{wordsOf}
 use Rattle.trialfile.specs.Files.{trialOf, fileChecks, fileRefusal, readingOf}
@@ -59,6 +61,13 @@ module _ (u t : Trial) (q : u ≡ t) where
 
   pub buffer-moved : (old out : List ℕ) → out ≡ afterWriting u old → out ≡ afterWriting t old
   buffer-moved old out e = e ∙ ap (λ (v : Trial). afterWriting v old) q
+
+  -- and so is the one whose table is made
+  pub table-moved : (places : ℕ) (n : ℕ) → n ≡ tableCallRefusal u places → n ≡ tableCallRefusal t places
+  table-moved places n e = e ∙ ap (λ (v : Trial). tableCallRefusal v places) q
+
+  pub places-moved : (old out : List Float) → out ≡ tableBuffer u old → out ≡ tableBuffer t old
+  places-moved old out e = e ∙ ap (λ (v : Trial). tableBuffer v old) q
 
 module _ (t : Trial) (places : ℕ) (x : Writing) (e : x ≡ writingOf t places) where
   abbrev write-all : Writing

@@ -1,3 +1,4 @@
 pub mod Handed
 pub mod Taking
+pub mod Layouts
 pub mod Calls

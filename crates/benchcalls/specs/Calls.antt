@@ -1,8 +1,10 @@
 -- The calls that only the benchmark makes: what is left in each lent place. Definitions only.
 -- A call answers 0 or the refusal number, and a refused one changes no lent place: each is `afterwards checks new old`.
---   figuresOf t              a, b, k, offers and pairs of a trial
---   codesOf t, digitsOf t, differencesOf t     its arrays
---   trialFrom fs codes digits differences      the trial of these figures and arrays
+--   layoutNumbers d          how a trial was laid out: the kind of its shape word, pairs or shops, and the treated shops, 0 for pairs
+--   designFrom kind units treated     the layout of these numbers: of shops where the kind is not 2
+--   numbersOf t              a, b, k, offers and the layout of a trial
+--   codesOf t, digitsOf t, figuresOf t     its arrays
+--   trialFrom ns codes digits figures      the trial of these numbers and arrays
 --   loggedIn ms, byteOfDecision d              records, field by field; the number that tells a verdict
 --   stepsIn f, criticalsIn f, barRowsIn f, barOffersIn f, countsIn f, verdictsOf f     parts of a full run: how many steps, critical values, the rows and the
 --                                              offers that set them, counts, verdicts as numbers
@@ -12,6 +14,8 @@
 --   fromTable part t .. places old       a place after `bench_table` with so many work places: a part of the table's full run
 use Prim.Native.Nat.{ℕ}
 use mathlib.Core.List.{List, [], _∷_, map}
+use mathlib.Core.Bool.{cond}
+use lib.Dec.{eqb}
 use lib.ListN.{length, getD}
 use lib.IntN.{ℤ}
 use lib.Ieee.{Float}
@@ -23,10 +27,10 @@ use Rattle.runs.specs.declared.Decision.{Decision}
 use Rattle.runs.specs.declared.FullRun.{FullRun}
 use Rattle.stepdown.specs.Refusals.{tableChecks, tableRunChecks}
 use Rattle.verdicts.specs.Verdicts.{verdictByte}
-use Rattle.trial.specs.Designs.{unitsOf}
-use Rattle.trial.specs.declared.Design.the-variants.{Paired}
+use Rattle.trial.specs.declared.Design.{Design}
+use Rattle.trial.specs.declared.Design.the-variants.{Paired, Unpaired}
 use Rattle.trial.specs.declared.Trial.{Trial}
-use Rattle.words.specs.Words.{wordsOf}
+use Rattle.words.specs.Words.{wordsOf, pairedKind, unpairedKind}
 use Rattle.trialfile.specs.Files.{trialOf, fileChecks}
 use Rattle.trialwriter.specs.Writings.{writeChecks, fileLength}
 use Rattle.rendering.specs.Reports.{reportOf}
@@ -35,8 +39,15 @@ use Rattle.benchcalls.specs.declared.Logged.{Logged}
 
 -- ---- a trial in parts
 
-abbrev pub figuresOf : Trial → List ℕ
-figuresOf t = t .level .a ∷ t .level .b ∷ t .shape .k ∷ t .shape .offers ∷ unitsOf (t .shape .design) ∷ []
+unfoldable pub layoutNumbers : Design → List ℕ
+layoutNumbers (Paired pairs) = pairedKind ∷ pairs ∷ 0 ∷ []
+layoutNumbers (Unpaired shops treated) = unpairedKind ∷ shops ∷ treated ∷ []
+
+unfoldable pub designFrom : ℕ → ℕ → ℕ → Design
+designFrom kind units treated = cond (eqb kind pairedKind) (Paired units) (Unpaired units treated)
+
+abbrev pub numbersOf : Trial → List ℕ
+numbersOf t = t .level .a ∷ t .level .b ∷ t .shape .k ∷ t .shape .offers ∷ layoutNumbers (t .shape .design)
 
 abbrev pub codesOf : Trial → List ℕ
 codesOf t = t .labels .codes
@@ -44,15 +55,15 @@ codesOf t = t .labels .codes
 abbrev pub digitsOf : Trial → List ℕ
 digitsOf t = t .labels .digits
 
-abbrev pub differencesOf : Trial → List ℤ
-differencesOf t = t .figures
+abbrev pub figuresOf : Trial → List ℤ
+figuresOf t = t .figures
 
 abbrev pub trialFrom : List ℕ → List ℕ → List ℕ → List ℤ → Trial
-trialFrom fs codes digits differences = record {
-  level = record { a = getD fs 0 0; b = getD fs 1 0 };
-  shape = record { k = getD fs 2 0; offers = getD fs 3 0; design = Paired (getD fs 4 0) };
+trialFrom ns codes digits figures = record {
+  level = record { a = getD ns 0 0; b = getD ns 1 0 };
+  shape = record { k = getD ns 2 0; offers = getD ns 3 0; design = designFrom (getD ns 4 0) (getD ns 5 0) (getD ns 6 0) };
   labels = record { codes = codes; digits = digits };
-  figures = differences;
+  figures = figures;
 }
 
 -- ---- a full run in parts

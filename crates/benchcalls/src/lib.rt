@@ -14,107 +14,152 @@ ghost use mathlib.Core.List.{map};
 ghost use lib.ListN.{length};
 ghost use Rattle.stepdown.specs.Refusals.{tableRunRefusal};
 ghost use Rattle.stepdown.specs.Answers.{fullWork};
+ghost use Rattle.trial.specs.Lent.{tableCallRefusal, tableBuffer};
 ghost use Rattle.trialfile.specs.Files.{fileRefusal};
 ghost use Rattle.trialwriter.specs.Writings.{writeRefusal, afterWriting};
 ghost use Rattle.rendering.specs.Renderings.{renderRefusal, afterRendering};
-ghost use Rattle.benchcalls.specs.Calls.{figuresOf, codesOf, digitsOf, differencesOf, trialFrom, loggedIn, byteOfDecision, stepsIn, criticalsIn, barRowsIn, barOffersIn, countsIn, verdictsOf, fromFile, lengthWritten, lengthRendered, fromTable};
+ghost use Rattle.benchcalls.specs.Calls.{layoutNumbers, designFrom, numbersOf, codesOf, digitsOf, figuresOf, trialFrom, loggedIn, byteOfDecision, stepsIn, criticalsIn, barRowsIn, barOffersIn, countsIn, verdictsOf, fromFile, lengthWritten, lengthRendered, fromTable};
 
-// The parts of a trial into arrays, the first one a, b, k, offers and pairs.
+// How a trial was laid out, as numbers: the kind of its shape word, pairs or shops, and the treated shops, 0 for pairs.
+fn layout(d: Design) -> [usize; 3]
+    ensures { λ r. ⌜ r ≡ layoutNumbers d ⌝ }
+{
+    match d {
+        Design::Paired(pairs) => [2, pairs, 0],
+        Design::Unpaired(shops, treated) => [5, shops, treated],
+    }
+}
+
+// The parts of a trial into arrays, the first one a, b, k, offers and the layout.
 fn take_apart(
     t: Trial,
-    figures: &mut [usize; 5],
+    numbers: &mut [usize; 7],
     codes: &mut [u32; OFFERS_MOST],
     digits: &mut [u8; OFFERS_MOST],
-    differences: &mut [i32; FIGURES_MOST],
+    figures: &mut [i32; FIGURES_MOST],
 )
-    ensures { λ _. ⌜ now (figures .exit) ≡ figuresOf t ⌝ }
+    ensures { λ _. ⌜ now (numbers .exit) ≡ numbersOf t ⌝ }
     ensures { λ _. ⌜ now (codes .exit) ≡ codesOf t ⌝ }
     ensures { λ _. ⌜ now (digits .exit) ≡ digitsOf t ⌝ }
-    ensures { λ _. ⌜ now (differences .exit) ≡ differencesOf t ⌝ }
+    ensures { λ _. ⌜ now (figures .exit) ≡ figuresOf t ⌝ }
 {
     let shape = t.shape;
     let design = shape.design;
-    let units = trial::units(design);
-    *figures = [t.level.a, t.level.b, shape.k, shape.offers, units];
+    let laid = layout(design);
+    *numbers = [
+        t.level.a,
+        t.level.b,
+        shape.k,
+        shape.offers,
+        laid[0],
+        laid[1],
+        laid[2],
+    ];
     let labels = t.labels;
     let c = labels.codes;
     *codes = c;
     let g = labels.digits;
     *digits = g;
     let d = t.figures;
-    *differences = d;
+    *figures = d;
 }
 
-// Reads a file. The arrays then hold its trial, the first one a, b, k, offers and pairs.
+// Reads a file. The arrays then hold its trial, the first one a, b, k, offers and the layout: kind, pairs or shops, treated.
 #[no_mangle]
 pub extern "C" fn bench_read(
     file: &[u8],
-    figures: &mut [usize; 5],
+    numbers: &mut [usize; 7],
     codes: &mut [u32; OFFERS_MOST],
     digits: &mut [u8; OFFERS_MOST],
-    differences: &mut [i32; FIGURES_MOST],
+    figures: &mut [i32; FIGURES_MOST],
 ) -> u32
     ensures { λ r. ⌜ r ≡ fileRefusal (now (file .entry)) ⌝ }
-    ensures { λ r. ⌜ now (figures .exit) ≡ fromFile figuresOf (now (file .entry)) (now (figures .entry)) ⌝ }
+    ensures { λ r. ⌜ now (numbers .exit) ≡ fromFile numbersOf (now (file .entry)) (now (numbers .entry)) ⌝ }
     ensures { λ r. ⌜ now (codes .exit) ≡ fromFile codesOf (now (file .entry)) (now (codes .entry)) ⌝ }
     ensures { λ r. ⌜ now (digits .exit) ≡ fromFile digitsOf (now (file .entry)) (now (digits .entry)) ⌝ }
-    ensures { λ r. ⌜ now (differences .exit) ≡ fromFile differencesOf (now (file .entry)) (now (differences .entry)) ⌝ }
+    ensures { λ r. ⌜ now (figures .exit) ≡ fromFile figuresOf (now (file .entry)) (now (figures .entry)) ⌝ }
 {
     let reading = trialfile::read(file);
     if reading.refusal == 0 {
         let t = reading.trial;
-        take_apart(t, figures, codes, digits, differences);
+        take_apart(t, numbers, codes, digits, figures);
     }
     reading.refusal
 }
 
-// The trial of these figures and arrays.
+// The layout of these numbers: of pairs where the kind is 2, and else of shops.
+fn design_of(kind: usize, units: usize, treated: usize) -> Design
+    ensures { λ r. ⌜ r ≡ designFrom kind units treated ⌝ }
+{
+    if kind == 2 {
+        return Design::Paired(units);
+    }
+    Design::Unpaired(units, treated)
+}
+
+// The trial of these numbers and arrays.
 fn put_together(
-    figures: &[usize; 5],
+    numbers: &[usize; 7],
     codes: &[u32; OFFERS_MOST],
     digits: &[u8; OFFERS_MOST],
-    differences: &[i32; FIGURES_MOST],
+    figures: &[i32; FIGURES_MOST],
 ) -> Trial
-    ensures { λ r. ⌜ r ≡ trialFrom (now (figures .entry)) (now (codes .entry)) (now (digits .entry)) (now (differences .entry)) ⌝ }
+    ensures { λ r. ⌜ r ≡ trialFrom (now (numbers .entry)) (now (codes .entry)) (now (digits .entry)) (now (figures .entry)) ⌝ }
 {
     Trial {
         level: Level {
-            a: figures[0],
-            b: figures[1],
+            a: numbers[0],
+            b: numbers[1],
         },
         shape: Shape {
-            k: figures[2],
-            offers: figures[3],
-            design: Design::Paired(figures[4]),
+            k: numbers[2],
+            offers: numbers[3],
+            design: design_of(numbers[4], numbers[5], numbers[6]),
         },
         labels: Labels {
             codes: *codes,
             digits: *digits,
         },
-        figures: *differences,
+        figures: *figures,
     }
 }
 
-// Writes the trial of these figures and arrays into the buffer's first bytes, and the length of the file into its place.
+// Writes the trial of these numbers and arrays into the buffer's first bytes, and the length of the file into its place.
 #[no_mangle]
 pub extern "C" fn bench_write(
-    figures: &[usize; 5],
+    numbers: &[usize; 7],
     codes: &[u32; OFFERS_MOST],
     digits: &[u8; OFFERS_MOST],
-    differences: &[i32; FIGURES_MOST],
+    figures: &[i32; FIGURES_MOST],
     out: &mut [u8],
     written: &mut usize,
 ) -> u32
-    ensures { λ r. ⌜ r ≡ writeRefusal (trialFrom (now (figures .entry)) (now (codes .entry)) (now (digits .entry)) (now (differences .entry))) (length (now (out .entry))) ⌝ }
-    ensures { λ r. ⌜ now (out .exit) ≡ afterWriting (trialFrom (now (figures .entry)) (now (codes .entry)) (now (digits .entry)) (now (differences .entry))) (now (out .entry)) ⌝ }
-    ensures { λ r. ⌜ now (written .exit) ≡ lengthWritten (trialFrom (now (figures .entry)) (now (codes .entry)) (now (digits .entry)) (now (differences .entry))) (length (now (out .entry))) (now (written .entry)) ⌝ }
+    ensures { λ r. ⌜ r ≡ writeRefusal (trialFrom (now (numbers .entry)) (now (codes .entry)) (now (digits .entry)) (now (figures .entry))) (length (now (out .entry))) ⌝ }
+    ensures { λ r. ⌜ now (out .exit) ≡ afterWriting (trialFrom (now (numbers .entry)) (now (codes .entry)) (now (digits .entry)) (now (figures .entry))) (now (out .entry)) ⌝ }
+    ensures { λ r. ⌜ now (written .exit) ≡ lengthWritten (trialFrom (now (numbers .entry)) (now (codes .entry)) (now (digits .entry)) (now (figures .entry))) (length (now (out .entry))) (now (written .entry)) ⌝ }
 {
-    let t = put_together(figures, codes, digits, differences);
+    let t = put_together(numbers, codes, digits, figures);
     let writing = trialwriter::write(t, out);
     if writing.refusal == 0 {
         *written = writing.length;
     }
     writing.refusal
+}
+
+// Makes the table of the trial of these numbers and arrays in the buffer's first places, row after row.
+#[no_mangle]
+pub extern "C" fn bench_trial_table(
+    numbers: &[usize; 7],
+    codes: &[u32; OFFERS_MOST],
+    digits: &[u8; OFFERS_MOST],
+    figures: &[i32; FIGURES_MOST],
+    out: &mut [f64],
+) -> u32
+    ensures { λ r. ⌜ r ≡ tableCallRefusal (trialFrom (now (numbers .entry)) (now (codes .entry)) (now (digits .entry)) (now (figures .entry))) (length (now (out .entry))) ⌝ }
+    ensures { λ r. ⌜ now (out .exit) ≡ tableBuffer (trialFrom (now (numbers .entry)) (now (codes .entry)) (now (digits .entry)) (now (figures .entry))) (now (out .entry)) ⌝ }
+{
+    let t = put_together(numbers, codes, digits, figures);
+    trialtable::table(t, out)
 }
 
 // Puts the report of a file into the buffer's first bytes, and the length of the text into its place.

@@ -4,18 +4,18 @@
 --   ..-told          the paper's number and values for each case of an answer
 --   ..-number        the number that an answer holds is that of the first condition that holds
 --   ..-accepted      what an accepted call hands out
-use Prim.Native.Nat.{ℕ, _+_, _*_, _<_}
+use Prim.Native.Nat.{ℕ, _+_, _-_, _*_, _<_}
 use mathlib.Core.Path.{_≡_, refl}
-use mathlib.Core.Bool.{true, false, not}
+use mathlib.Core.Bool.{true, false, not, _||_}
 use mathlib.Core.List.{List, [], _∷_, _++_}
 use lib.ListN.{length, getD}
 use lib.Dec.{ltb, leb, eqb}
 use lib.IntN.{pos}
 use lib.Ieee.{Float, nan}
 use Rattle.order.specs.Lists.{rowsOf}
-use Rattle.refusals.specs.Answers.{r1, r3, r4, r9, r10, r11, r12, r13, r14, placesFrom, answer}
-use Rattle.limits.specs.Limits.{offersMost}
-use Rattle.refusals.specs.Limits.{badColumns, badLevel}
+use Rattle.refusals.specs.Answers.{r1, r2, r3, r4, r9, r10, r11, r12, r13, r14, r15, placesFrom, answer}
+use Rattle.limits.specs.Limits.{offersMost, pairsMost, shopsMost}
+use Rattle.refusals.specs.Limits.{outside, badColumns, badLevel}
 use Rattle.refusals.specs.Buffers.{tooShort, written, cleared}
 use Rattle.refusals.proofs.Answers.{answered, answer-map}
 use Rattle.runs.specs.FullRuns.{noRecord, acceptedRun, refusedRun}
@@ -35,13 +35,14 @@ use Rattle.trial.specs.Exchange.{rowTotal, tableOf}
 use Rattle.trial.specs.Designs.{designChecks}
 use Rattle.trial.specs.Record.{figureCount, settingOf, figuresOf}
 use Rattle.trial.specs.Refusals.{headingChecks, offerChecks, figureChecks, nth, contentChecks, trialChecks}
+use Rattle.trial.specs.declared.Design.the-variants.{Paired, Unpaired}
 use Rattle.trial.specs.declared.Shape.{Shape}
 use Rattle.trial.specs.Lent.{fullSize, refusedSize, tableCallChecks, tableCallRefusal, tableBuffer}
 use Rattle.trial.specs.declared.TableSize.{TableSize}
 use Rattle.trial.specs.declared.Trial.{Trial}
 use Rattle.words.specs.Words.{wordsOf, word}
 use Rattle.layouts.specs.Layouts.{levelAt, shapeAt, layoutOf}
-use Rattle.words.specs.Words.{shapeIn}
+use Rattle.words.specs.Words.{noShape, spareOf, shapeIn}
 use Rattle.trialfile.specs.Files.{badLength, levelPlace, shapePlace, offerPlace, figurePlace, endPlace, bodyPlaces, fileChecks, fileRefusal, trialOf, readingOf}
 use Rattle.trialwriter.specs.Writings.{fileLength, writeChecks, writeRefusal, writingOf}
 use Rattle.trialwriter.specs.declared.Writing.{Writing}
@@ -61,7 +62,7 @@ use Rattle.view.proofs.Places as places
 
 -- ==== the stated orders ====
 
--- a file: 1 first, then words from the start: level, shape, offers, differences, end
+-- a file: 1 first, then words from the start: level, shape, offers, figures, end
 pub file-order : (bytes : List ℕ) → let ws = wordsOf bytes in
     fileChecks bytes ≡ (badLength bytes, r1) ∷ (levelPlace (word ws levelAt) ++ (shapePlace (word ws shapeAt) ++ bodyPlaces ws (shapeIn (word ws shapeAt))))
 unfolding fileChecks
@@ -72,7 +73,16 @@ pub body-order : (ws : List ℕ) (s : Shape) → let l = layoutOf s in
 unfolding bodyPlaces
 body-order ws s = refl
 
--- a trial given as a record: 4, 3, then offers (at each, 5 before 6), then differences; for its table, its run, plain or balanced, its figures and the writer the same, then 12
+-- at the shape word: 2, 4, then what its layout adds: the pairs' part of 4, or 15 of shops without partners (document 02, §6)
+pub shape-order : (w : ℕ) → shapePlace w ≡ (noShape w, r2) ∷ (badColumns offersMost (shapeIn w .offers) (shapeIn w .k) || not (eqb (spareOf w) 0), r4) ∷ designChecks (shapeIn w .design)
+shape-order w = refl
+
+pub layout-order : (pairs shops treated : ℕ)
+    → (designChecks (Paired pairs) ≡ (outside 1 pairsMost pairs, r4) ∷ []) × (designChecks (Unpaired shops treated) ≡ (outside 2 shopsMost shops || outside 1 (shops - 1) treated, r15) ∷ [])
+unfolding designChecks
+layout-order pairs shops treated = (refl, refl)
+
+-- a trial given as a record: 4, 15, 3, then offers (at each, 5 before 6), then figures; for its table, its run, plain or balanced, its figures and the writer the same, then 12
 module _ (t : Trial) where
   pub record-order : let s = t .shape in trialChecks t ≡
       ((badColumns offersMost (s .offers) (s .k), r4) ∷ (designChecks (s .design) ++ ((badLevel (t .level .a) (t .level .b), r3) ∷ [])))

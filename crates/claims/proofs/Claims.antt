@@ -2,27 +2,27 @@
 -- A contract says that a public function answers what a definition gives, for every input; the theorems are about those definitions.
 -- Every call is `answer checks accepted refused`, and every lent buffer `afterwards checks new old` (refusals/specs/Answers.antt): Calls.antt
 -- beside this page lists them, with the stated orders. docs/CLAIMS.md maps every sentence of document 01, and of the requests, to what keeps it.
-use Prim.Native.Nat.{ℕ, suc, _+_, _*_, _-_, _^_, _≤_, _<_}
-use mathlib.Core.Path.{_≡_, refl, _∙_}
-use mathlib.Core.Bool.{Bool, true, false, _&&_}
+use Prim.Native.Nat.{ℕ, suc, _+_, _*_, _-_, _/_, _%_, _^_, _≤_, _<_}
+use mathlib.Core.Path.{_≡_, refl, sym, ap, _∙_}
+use mathlib.Core.Bool.{Bool, true, false, not, _&&_, _||_}
 use mathlib.Core.List.{List, [], _∷_, _++_, map}
 use mathlib.Core.Logic.{_↔_, _⊎_}
 use lib.ListN.{length, getD, replicate, take}
 use lib.Dec.{T, ltb}
-use lib.IntN.{pos}
+use lib.IntN.{ℤ, pos, _-ℤ_, _*ℤ_}
 use lib.Ieee.{Float, nan, binary64, ofInt, toSigned}
 use Rattle.limits.specs.Limits.{inputRoom, longestReport, longestSheet}
 use Rattle.order.specs.Order.{plusZero, finite, smaller, atMost, equal}
 use Rattle.order.specs.Counting.{count, all}
-use Rattle.order.specs.Lists.{rowsOf}
+use Rattle.order.specs.Lists.{tabulate, rowsOf}
 use Rattle.order.specs.Places.{place}
 use Rattle.order.proofs.Rows.{soundRow}
 use Rattle.order.proofs.Places as places
 use Rattle.select.specs.Rank.{mthSmallest}
 use Rattle.select.specs.Passes.{topBits, Search}
 use Rattle.select.proofs.Passes as passes
-use Rattle.refusals.specs.Answers.{Checks, First, firstRefusal, afterwards}
-use Rattle.refusals.specs.Limits.{allowance}
+use Rattle.refusals.specs.Answers.{r15, Checks, First, firstRefusal, afterwards}
+use Rattle.refusals.specs.Limits.{outside, allowance}
 use Rattle.refusals.specs.Buffers.{written, cleared}
 use Rattle.refusals.proofs.Answers.{Answered, answered, none-holds}
 use Rattle.columns.specs.Columns.{Columns, size, _∪_, _∖_, within, choose, everyColumn}
@@ -66,18 +66,27 @@ use Rattle.tablebalance.specs.Examples as balanced
 use Rattle.tablebalance.proofs.Accepted.{accepted-balanced}
 use Rattle.tablebalance.proofs.Counted as counted
 use Rattle.tablebalance.proofs.Examples as balance-examples
-use Rattle.trial.specs.Designs.{entryOf, untested}
-use Rattle.trial.specs.Record.{ArrayLengths, trimmed, Same, Keeps}
+use Rattle.trial.specs.Ascending.{before}
+use Rattle.trial.specs.Choices.{Choice, choices, choiceAt, shopsOf, sumOf, contrast, chosenFirst}
+use Rattle.trial.specs.Designs.{designChecks, rowCount, entryOf, untested}
+use Rattle.trial.specs.Examples.{trialShops, sumsShops, twoShops, tenShops}
+use Rattle.trial.specs.Record.{ArrayLengths, Contents, trimmed, Same, Keeps}
 use Rattle.trial.specs.Aside.{liveOffers}
 use Rattle.trial.specs.Exchange.{byOffer, figuresAt, rowOf, rowTotal, trialRows, tableOf}
 use Rattle.trial.specs.Refusals.{trialRefusal}
 use Rattle.trial.specs.declared.Labels.{Labels}
 use Rattle.trial.specs.declared.Trial.{Trial}
-use Rattle.trial.specs.declared.Design.the-variants.{Paired}
-use Rattle.trial.proofs.Aside.{every-difference}
+use Rattle.trial.specs.declared.Design.the-variants.{Paired, Unpaired}
+use Rattle.trial.proofs.Accepted as trial-accepted
+use Rattle.trial.proofs.Ascending.{choices-ascend}
+use Rattle.trial.proofs.Aside as asides-of
+use Rattle.trial.proofs.Choices as chosen
+use Rattle.trial.proofs.Examples as shop-examples
+use Rattle.words.proofs.Shapes.{in-shops}
+use Rattle.control.proofs.Shops as in-shops-of
 use Rattle.trial.proofs.Unused.{same-trimmed}
 use Rattle.trial.proofs.Exact.{row-exact}
-use Rattle.words.specs.Words.{Bytes, wordsOf}
+use Rattle.words.specs.Words.{Bytes, wordsOf, shapeIn}
 use Rattle.trialfile.specs.Files.{fileChecks, trialOf, fileRefusal, readingOf}
 use Rattle.trialwriter.specs.Writings.{fileLength, writingOf, afterWriting}
 use Rattle.trialrun.specs.TrialRuns.{trialStart, trialRun, runCallChecks, runCallRefusal, trialAnswer, runWork}
@@ -202,8 +211,9 @@ starred = all-examples
 
 -- whichever shops the coins had picked, at most floor(2^n × a/b) of the 2^n runs reject k or more idle offers, whatever the other offers show in each run:
 -- the verdicts are those that the full runs answer, with buffers that are long enough. Of the other offers nothing is asked but that each run's trial is
--- accepted: one of them may be set aside in some runs and not in others
-pub trials : (t : Trial) (idle : ℕ → Bool) (runs : ℕ → Trial) → trialRefusal t ≡ 0
+-- accepted: one of them may be set aside in some runs and not in others. The same theorem holds for shops without partners, over the choices of treated shops
+-- (`listed`; §6 below has it in its own words). `ArrayLengths` says what every value of the record's type has: arrays of their length
+pub trials : (t : Trial) (idle : ℕ → Bool) (runs : ℕ → Trial) → ArrayLengths t → trialRefusal t ≡ 0
     → ((g : ℕ) → g < rowTotal t → trialRefusal (runs g) ≡ 0)
     → ((g : ℕ) → g < rowTotal t → Keeps t (runs g))
     → ((g : ℕ) → g < rowTotal t → ListedOn idle g t (runs g))
@@ -388,7 +398,7 @@ pub printed-ranks : (t : Trial) → trialRefusal t ≡ 0 → (i : ℕ) → i < l
 printed-ranks = printing.printed-ranks
 
 -- the rarity of wrong names holds for it too: demand 3 in both forms, over what the balanced full runs answer
-pub balanced-trials : (t : Trial) (idle : ℕ → Bool) (runs : ℕ → Trial) → trialRefusal t ≡ 0
+pub balanced-trials : (t : Trial) (idle : ℕ → Bool) (runs : ℕ → Trial) → ArrayLengths t → trialRefusal t ≡ 0
     → ((g : ℕ) → g < rowTotal t → trialRefusal (runs g) ≡ 0)
     → ((g : ℕ) → g < rowTotal t → Keeps t (runs g))
     → ((g : ℕ) → g < rowTotal t → ListedOn idle g t (runs g))
@@ -410,9 +420,9 @@ balanced-examples = (rank-examples.all-examples, balance-examples.all-examples)
 -- ==== Offers that never sold (document 02, §4) ====
 
 -- in a paired trial an offer (from 0) has not been tested exactly where its difference is 0 in every pair, as the record holds them, offer by offer
-pub not-tested : (t : Trial) (pairs : ℕ) → t .shape .design ≡ Paired pairs → (i : ℕ) → i < t .shape .offers
+pub not-tested : (t : Trial) → ArrayLengths t → trialRefusal t ≡ 0 → (i : ℕ) → i < t .shape .offers → (pairs : ℕ) → t .shape .design ≡ Paired pairs
     → T (untested (t .shape .design) (figuresAt t i)) ↔ ((j : ℕ) → j < pairs → getD (t .figures) (i * pairs + j) (pos 0) ≡ pos 0)
-not-tested = every-difference
+not-tested t sized ok = asides-of.every-difference t sized (trial-accepted.accepted t ok)
 
 module _ (t : Trial) (i : ℕ) (h : i < t .shape .offers) where
   -- an offer is set aside exactly where it has not been tested, by the trial's own figures, in the balanced run too
@@ -489,7 +499,7 @@ module _ (t : Trial) (few : size (liveOffers t) < t .shape .k) where
   few-figures = trialfigures.trial-few t few
 
 -- in the runs of demand 3 an idle offer is set aside in all runs or in none
-pub idle-alike : (t u : Trial) (g : ℕ) (idle : ℕ → Bool) → Keeps t u → ListedOn idle g t u → (i : ℕ) → i < t .shape .offers → T (idle i)
+pub idle-alike : (t u : Trial) (g : ℕ) (idle : ℕ → Bool) → ArrayLengths t → trialRefusal t ≡ 0 → g < rowTotal t → Keeps t u → ListedOn idle g t u → (i : ℕ) → i < t .shape .offers → T (idle i)
     → untested (u .shape .design) (figuresAt u i) ≡ untested (t .shape .design) (figuresAt t i)
 idle-alike = runs-of-trials.idle-alike
 
@@ -512,10 +522,10 @@ unfolding stepSets
 sets-looked-at k live R s = (refl, refl)
 
 -- of the choices, those with the lowest column of R come before those without it
-pub choices : (j : ℕ) (R : Columns) → (choose 0 R ≡ map (λ _. false) R ∷ [])
+pub walk-order : (j : ℕ) (R : Columns) → (choose 0 R ≡ map (λ _. false) R ∷ [])
     × (choose (suc j) (true ∷ R) ≡ map (λ I. true ∷ I) (choose j R) ++ map (λ I. false ∷ I) (choose (suc j) R)) × (choose (suc j) (false ∷ R) ≡ map (λ I. false ∷ I) (choose (suc j) R))
 unfolding choose
-choices j R = (refl, refl, refl)
+walk-order j R = (refl, refl, refl)
 
 -- the k-th largest of any row comes with its column: in the set, with that value, and no lower one of the set has it
 module _ (k : ℕ) (K : Columns) (row : List Float) (finitely : T (soundRow (length K) row)) (some : 0 < k) (wide : k ≤ size K) where
@@ -552,3 +562,70 @@ step-lines l r i = refl
 -- ties in offers, in rows and between sets, and both zeros; W and P stand among the starred examples
 pub bar-examples : map (λ x. x .asked) ties.bars ≡ map (λ x. x .told) ties.bars
 bar-examples = all-bars
+
+-- ==== Shops without partners (document 02, §6) ====
+
+-- the shape word of kind 5: k, offers, shops and treated shops in bits 27-24, 23-16, 15-8 and 7-0; it is the word of no trial of pairs, since two trials are the same only if their
+-- kinds are. Both round trips (`write-read`, `read-write`) hold for both kinds
+pub shops-word : (w : ℕ) → w / 268435456 ≡ 5 → shapeIn w ≡ record { k = w / 16777216 % 16; offers = w / 65536 % 256; design = Unpaired (w / 256 % 256) (w % 256) }
+shops-word w h = sym (in-shops w (w / 268435456) refl h)
+
+pub same-kind : (t u : Trial) → Same t u → t .shape .design ≡ u .shape .design
+same-kind t u same = ap (λ (c : Contents). c .setting .shape .design) same
+
+-- refused by 15: shops outside 2 to 10, or treated ones outside 1 to all but one
+pub shops-refused : (shops treated : ℕ) → designChecks (Unpaired shops treated) ≡ (outside 2 10 shops || outside 1 (shops - 1) treated, r15) ∷ []
+unfolding designChecks
+shops-refused shops treated = refl
+
+-- the rows of the table: a row for each choice of so many shops, in ascending order of their lists, every choice in one row and in one alone; row 0 has the first shops,
+-- which are the treated ones. There are at most 252
+module _ (shops treated : ℕ) where
+  pub shops-rows : (rowCount (Unpaired shops treated) ≡ length (choices shops treated)) × (shops ≤ 10 → length (choices shops treated) ≤ 252)
+  unfolding rowCount
+  shops-rows = (refl, chosen.choices-most shops treated)
+
+  pub shops-ascend : (g h : ℕ) → g < h → h < length (choices shops treated) → T (before (shopsOf 1 (choiceAt shops treated g)) (shopsOf 1 (choiceAt shops treated h)))
+  shops-ascend = choices-ascend shops treated
+
+  pub shops-chosen : (g : ℕ) → g < length (choices shops treated) → (length (choiceAt shops treated g) ≡ shops) × (size (choiceAt shops treated g) ≡ treated)
+  shops-chosen g h = (chosen.choice-length shops treated g h, chosen.choice-size shops treated g h)
+
+  pub shops-all : (c : Choice) → length c ≡ shops → size c ≡ treated → (g : ℕ) × (g < length (choices shops treated)) × (choiceAt shops treated g ≡ c)
+  shops-all = chosen.choices-all shops treated
+
+  pub shops-once : (g h : ℕ) → g < length (choices shops treated) → h < length (choices shops treated) → choiceAt shops treated g ≡ choiceAt shops treated h → g ≡ h
+  shops-once = chosen.choices-once shops treated
+
+pub shops-first : (treated others : ℕ) → choiceAt (treated + others) treated 0 ≡ replicate treated true ++ replicate others false
+shops-first = chosen.first-choice
+
+-- the entry: (shops - treated) times the chosen sum, less treated times the remaining sum. It is exact as an f64 (`sums-exact`)
+pub shops-entry : (shops treated g : ℕ) (xs : List ℤ) → let c = choiceAt shops treated g in
+    entryOf (Unpaired shops treated) g xs ≡ pos (shops - treated) *ℤ sumOf (within c xs) -ℤ pos treated *ℤ sumOf (within (map not c) xs)
+unfolding entryOf contrast
+shops-entry shops treated g xs = refl
+
+-- an offer is set aside exactly where its figures are equal in all shops, as the record holds them
+pub shops-aside : (t : Trial) → ArrayLengths t → trialRefusal t ≡ 0 → (i : ℕ) → i < t .shape .offers → (shops treated : ℕ) → t .shape .design ≡ Unpaired shops treated
+    → T (untested (t .shape .design) (figuresAt t i)) ↔ ((j : ℕ) → j < shops → getD (t .figures) (i * shops + j) (pos 0) ≡ getD (t .figures) (i * shops) (pos 0))
+shops-aside t sized ok = asides-of.every-shop t sized (trial-accepted.accepted t ok)
+
+-- rarity: over all C choices named as treated, idle figures staying with their shops, so that run g lists those of the shops of choice g first, both groups in ascending order,
+-- and the other offers any allowed ones, new in each run, at most floor(C × a/b) runs reject k or more idle offers, plain and balanced
+module _ (t : Trial) (shops treated : ℕ) (laid : t .shape .design ≡ Unpaired shops treated) (idle : ℕ → Bool) (runs : ℕ → Trial) (sized : ArrayLengths t) (ok : trialRefusal t ≡ 0)
+    (oks : (g : ℕ) → g < length (choices shops treated) → trialRefusal (runs g) ≡ 0)
+    (keeps : (g : ℕ) → g < length (choices shops treated) → Keeps t (runs g))
+    (named : (g : ℕ) → g < length (choices shops treated) → (i : ℕ) → i < t .shape .offers → T (idle i) → let c = choiceAt shops treated g in figuresAt (runs g) i ≡ within c (figuresAt t i) ++ within (map not c) (figuresAt t i))
+    (places work : ℕ) (room : length (choices shops treated) * t .shape .offers ≤ places) (rows : length (choices shops treated) ≤ work) where
+  pub shops-trials : runsThatReject (t .shape .k) (length (choices shops treated)) idle (λ g. verdictsIn (t .shape .offers) (trialAnswer (runs g) places work)) ≤ allowance (length (choices shops treated)) (t .level .a) (t .level .b)
+  unfolding chosenFirst
+  shops-trials = in-shops-of.shops-answered t shops treated laid idle runs sized ok oks keeps named places work room rows
+
+  pub shops-balanced-trials : runsThatReject (t .shape .k) (length (choices shops treated)) idle (λ g. verdictsIn (t .shape .offers) (trialBalancedAnswer (runs g) places work)) ≤ allowance (length (choices shops treated)) (t .level .a) (t .level .b)
+  unfolding chosenFirst
+  shops-balanced-trials = in-shops-of.shops-balanced-answered t shops treated laid idle runs sized ok oks keeps named places work room rows
+
+-- a trial of 4 shops with 2 treated, worked by hand (trial/specs/Examples.antt); 2 shops with 1 treated; 10 with 5 and with 9
+pub shops-examples : (tabulate (rowTotal trialShops) (λ g. map (entryOf (Unpaired 4 2) g) (byOffer trialShops)) ≡ sumsShops) × (map rowTotal (trialShops ∷ twoShops ∷ tenShops 5 ∷ tenShops 9 ∷ []) ≡ 6 ∷ 2 ∷ 252 ∷ 10 ∷ [])
+shops-examples = (shop-examples.shops-sums, shop-examples.ten-shops .2)

@@ -1,5 +1,5 @@
 -- Reports letter by letter, from the bytes of a file: W as printed, a starred example of document 01, and balanced; both reports of the trial milk and
--- saffron (document 02, §3), and of trials with offers that are set aside (§4).
+-- saffron (document 02, §3), of trials with offers that are set aside (§4), and of shops without partners (§6).
 --   w-report, w-balanced-report                 of W
 --   saffron-read                                the file of milk and saffron is read as its trial
 --   saffron-report, saffron-balanced-report     of milk and saffron: the milk sets the critical value; balanced, saffron is rejected
@@ -12,7 +12,7 @@ use lib.Ieee.{lt, le, toSigned}
 use Rattle.runs.specs.FullRuns.{acceptedRun}
 use Rattle.words.specs.Words.{bytesOf, signed}
 use Rattle.trialfile.specs.Files.{readingOf}
-use Rattle.trialfile.specs.Examples.{wordsW, wordsSaffron, wordsAside, wordsFront, wordsCancelled, wordsZeros}
+use Rattle.trialfile.specs.Examples.{wordsW, wordsSaffron, wordsAside, wordsFront, wordsCancelled, wordsZeros, wordsShops, wordsTwoShops, wordsTenShops}
 use Rattle.trialrun.specs.TrialRuns.{trialRun}
 use Rattle.trialbalance.specs.TrialBalance.{trialBalancedRun}
 use Rattle.trialbalance.specs.Examples.{trialSaffron}
@@ -61,3 +61,21 @@ cancelled-report = (refl, refl)
 pub zeros-report : (reportOf (bytesOf wordsZeros) ≡ ascii "trial 1 2 1 0 2\n0042 aside 0 0\n7 aside 0 0\nend 0\n") × (balancedReportOf (bytesOf wordsZeros) ≡ ascii "trial 1 2 1 0 2\n0042 aside 0 0\n7 aside 0 0\nend 0\n")
 unfolding reportOf balancedReportOf bytesOf wordsZeros signed acceptedRun trialRun trialBalancedRun lt le toSigned printed decimalUpTo
 zeros-report = (refl, refl)
+
+-- ---- shops without partners
+
+pub shops-report : reportOf (bytesOf wordsShops) ≡ ascii "trial 4 2 1 1 6\nstep 1 16 1 7\nstep 2 8 5 7\n0042 rejected 1 1\n7 kept 2 5\nend 1\n"
+unfolding reportOf bytesOf wordsShops signed acceptedRun trialRun lt le toSigned printed decimalUpTo
+shops-report = refl
+
+pub shops-balanced-report : balancedReportOf (bytesOf wordsShops) ≡ ascii "trial 4 2 1 1 6\nstep 1 6 0 0042\n0042 kept 1 1\n7 kept 1 5\nend 0\n"
+unfolding balancedReportOf bytesOf wordsShops signed acceptedRun trialBalancedRun lt le toSigned printed decimalUpTo
+shops-balanced-report = refl
+
+pub two-shops-report : reportOf (bytesOf wordsTwoShops) ≡ ascii "trial 2 2 1 1 2\nstep 1 -2 1 0042\n0042 rejected 1 1\n7 aside 0 0\nend 1\n"
+unfolding reportOf bytesOf wordsTwoShops signed acceptedRun trialRun lt le toSigned printed decimalUpTo
+two-shops-report = refl
+
+pub ten-shops-report : reportOf (bytesOf wordsTenShops) ≡ ascii "trial 10 1 1 1 10\nstep 1 -1 1 7\n7 rejected 1 1\nend 1\n"
+unfolding reportOf bytesOf wordsTenShops signed acceptedRun trialRun lt le toSigned printed decimalUpTo
+ten-shops-report = refl

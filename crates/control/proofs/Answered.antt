@@ -27,7 +27,7 @@ use Rattle.stepdown.specs.Refusals.{tableChecks, tableRefusal, tableRunChecks}
 use Rattle.stepdown.specs.Answers.{fullAnswer}
 use Rattle.balance.specs.Balance.{balancedRows, balancedTable}
 use Rattle.tablebalance.specs.Answers.{balancedRun, balancedChecks, balancedAnswer}
-use Rattle.trial.specs.Record.{Setting, Keeps}
+use Rattle.trial.specs.Record.{ArrayLengths, Setting, Keeps}
 use Rattle.trial.specs.Exchange.{rowTotal, trialRows}
 use Rattle.trial.specs.Refusals.{trialChecks, trialRefusal}
 use Rattle.trial.specs.declared.Trial.{Trial}
@@ -100,7 +100,7 @@ module _ (t : Trial) where
   unfolding trialBalancedRun
   balanced-verdicts = verdicts-length (balancedRows (trialRows t)) (trialStart t)
 
-module _ (t : Trial) (idle : ℕ → Bool) (runs : ℕ → Trial) (ok : trialRefusal t ≡ 0)
+module _ (t : Trial) (idle : ℕ → Bool) (runs : ℕ → Trial) (ty : ArrayLengths t) (ok : trialRefusal t ≡ 0)
     (oks : (g : ℕ) → g < rowTotal t → trialRefusal (runs g) ≡ 0)
     (keeps : (g : ℕ) → g < rowTotal t → Keeps t (runs g))
     (listing : (g : ℕ) → g < rowTotal t → ListedOn idle g t (runs g)) where
@@ -115,8 +115,8 @@ module _ (t : Trial) (idle : ℕ → Bool) (runs : ℕ → Trial) (ok : trialRef
 
     pub trials-answered : runsThatReject (t .shape .k) (rowTotal t) idle (λ g. verdictsIn (t .shape .offers) (trialAnswer (runs g) places work)) ≤ allowance (rowTotal t) (t .level .a) (t .level .b)
     unfolding trialAnswer
-    trials-answered = counted (t .shape .k) (rowTotal t) _ idle _ _ (trial-shown trialRun trial-verdicts) (trials t idle runs ok oks keeps listing)
+    trials-answered = counted (t .shape .k) (rowTotal t) _ idle _ _ (trial-shown trialRun trial-verdicts) (trials t idle runs ty ok oks keeps listing)
 
     pub balanced-trials-answered : runsThatReject (t .shape .k) (rowTotal t) idle (λ g. verdictsIn (t .shape .offers) (trialBalancedAnswer (runs g) places work)) ≤ allowance (rowTotal t) (t .level .a) (t .level .b)
     unfolding trialBalancedAnswer
-    balanced-trials-answered = counted (t .shape .k) (rowTotal t) _ idle _ _ (trial-shown trialBalancedRun balanced-verdicts) (balanced-trials t idle runs ok oks keeps listing)
+    balanced-trials-answered = counted (t .shape .k) (rowTotal t) _ idle _ _ (trial-shown trialBalancedRun balanced-verdicts) (balanced-trials t idle runs ty ok oks keeps listing)

@@ -6,3 +6,4 @@ pub mod Tables
 pub mod Listings
 pub mod Trials
 pub mod Answered
+pub mod Shops

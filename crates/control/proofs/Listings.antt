@@ -1,6 +1,8 @@
 -- Where run g of a trial finds its rows, by how the trial was laid out: nothing else of the theorem knows the cases.
 --   moved d h g                          the row of the trial that is row h of run g
---   moved-back, moved-lt, moved-first    it is a reordering of the rows, and row 0 of run g is row g
+--   moved-from d i g                     the row of run g that is row i of the trial
+--   moved-lt, moved-from-lt, moved-back  they are rows, and the one undoes the other
+--   moved-first                          row 0 of run g is row g
 --   entry-listed                         the entry of what run g lists
 --   exchangedBy-at                       a listed difference changes its sign exactly where its bit of g is 1
 use Prim.Native.Nat.{ℕ, zero, suc, _+_, _*_, _/_, _%_, _<_}
@@ -15,12 +17,16 @@ use lib.Arith.{bin-ind}
 use lib.Bits.{bitXor, differ, xor-step, xor-shr, xor-mod, xor-self, xor-lt, xor-zero-l}
 use lib.IntN.{ℤ, pos}
 use Rattle.order.proofs.Booleans.{digit-cases}
-use Rattle.columns.specs.Columns.{inSet}
+use Rattle.columns.specs.Columns.{size, inSet}
 use Rattle.columns.proofs.Masks.{inSet-half}
-use Rattle.trial.specs.Designs.{exchanged, exchangedBy, rowCount, entryOf, listed}
+use Rattle.trial.specs.Pairs.{exchanged, exchangedBy}
+use Rattle.trial.specs.Choices.{Choice, choices, choiceAt, contrast, chosenFirst}
+use Rattle.trial.specs.Designs.{unitsOf, rowCount, entryOf, listed}
 use Rattle.trial.specs.declared.Design.{Design}
-use Rattle.trial.specs.declared.Design.the-variants.{Paired}
+use Rattle.trial.specs.declared.Design.the-variants.{Paired, Unpaired}
 use Rattle.trial.proofs.Sums.{signedSum-exchanged}
+use Rattle.trial.proofs.Choices.{choice-length, choice-size, rank, rank-lt, rank-at, at-rank}
+use Rattle.trial.proofs.Listed.{chosenFirst-length, chosenFirst-size, spread, spread-length, spread-size, spread-back, spread-first, contrast-listed}
 
 -- ---- pairs: xor undoes itself
 
@@ -46,23 +52,68 @@ exchangedBy-at g [] j h = absurd (omega arith)
 exchangedBy-at g (d ∷ ds) zero h = ap (λ (n : ℕ). exchanged (eqb (n % 2) 1) d) (sym (div-one g))
 exchangedBy-at g (d ∷ ds) (suc j) h = exchangedBy-at (g / 2) ds j (omega arith) ∙ ap (λ (b : Bool). exchanged b (getD ds j (pos 0))) (inSet-half g j)
 
+-- ---- shops: the places of a listing are read as shops, and a choice that is listed is read as itself
+
+module _ (n t g h : ℕ) (l : g < length (choices n t)) (m : h < length (choices n t)) where
+  abbrev c : Choice
+  c = choiceAt n t g
+
+  abbrev d : Choice
+  d = choiceAt n t h
+
+  alike-long : length d ≡ length c
+  alike-long = choice-length n t h m ∙ sym (choice-length n t g l)
+
+  -- a choice of as many shops, with as many, stands in its row
+  in-row : (e : Choice) → length e ≡ length d → size e ≡ size d → (rank t e < length (choices n t)) × (choiceAt n t (rank t e) ≡ e)
+  in-row e p q =
+      let u = p ∙ choice-length n t h m in
+      let v = q ∙ choice-size n t h m in
+      (rank-lt n t e u v, rank-at n t e u v)
+
+  spread-row : (rank t (spread c d) < length (choices n t)) × (choiceAt n t (rank t (spread c d)) ≡ spread c d)
+  spread-row = in-row (spread c d) (spread-length c d) (spread-size c d)
+
+  chosen-row : (rank t (chosenFirst c d) < length (choices n t)) × (choiceAt n t (rank t (chosenFirst c d)) ≡ chosenFirst c d)
+  chosen-row = in-row (chosenFirst c d) (chosenFirst-length c d alike-long) (chosenFirst-size c d alike-long)
+
 -- ---- by cases
 
 pub moved : Design → ℕ → ℕ → ℕ
 moved (Paired pairs) h g = bitXor h g
+moved (Unpaired shops treated) h g = rank treated (spread (choiceAt shops treated g) (choiceAt shops treated h))
 
-pub moved-back : (d : Design) (h g : ℕ) → moved d (moved d h g) g ≡ h
-unfolding moved
-moved-back (Paired pairs) h g = xor-back h g
+pub moved-from : Design → ℕ → ℕ → ℕ
+moved-from (Paired pairs) i g = bitXor i g
+moved-from (Unpaired shops treated) i g = rank treated (chosenFirst (choiceAt shops treated g) (choiceAt shops treated i))
 
 pub moved-lt : (d : Design) (h g : ℕ) → h < rowCount d → g < rowCount d → moved d h g < rowCount d
 unfolding moved rowCount
 moved-lt (Paired pairs) h g l m = xor-lt pairs h g l m
+moved-lt (Unpaired shops treated) h g l m = spread-row shops treated g h m l .0
 
-pub moved-first : (d : Design) (g : ℕ) → moved d 0 g ≡ g
-unfolding moved
-moved-first (Paired pairs) g = xor-zero-l g
+pub moved-from-lt : (d : Design) (i g : ℕ) → i < rowCount d → g < rowCount d → moved-from d i g < rowCount d
+unfolding moved-from rowCount
+moved-from-lt (Paired pairs) i g l m = xor-lt pairs i g l m
+moved-from-lt (Unpaired shops treated) i g l m = chosen-row shops treated g i m l .0
 
-pub entry-listed : (d : Design) (h g : ℕ) (xs : List ℤ) → entryOf d h (listed d g xs) ≡ entryOf d (moved d h g) xs
-unfolding moved entryOf listed
-entry-listed (Paired pairs) h g xs = signedSum-exchanged h g xs
+pub moved-back : (d : Design) (i g : ℕ) → i < rowCount d → g < rowCount d → moved d (moved-from d i g) g ≡ i
+unfolding moved moved-from rowCount
+moved-back (Paired pairs) i g l m = xor-back i g
+moved-back (Unpaired shops treated) i g l m =
+    ap (λ (c : Choice). rank treated (spread (choiceAt shops treated g) c)) (chosen-row shops treated g i m l .1)
+    ∙ ap (rank treated) (spread-back (choiceAt shops treated g) (choiceAt shops treated i) (alike-long shops treated g i m l))
+    ∙ at-rank shops treated i l
+
+pub moved-first : (d : Design) (g : ℕ) → g < rowCount d → moved d 0 g ≡ g
+unfolding moved rowCount
+moved-first (Paired pairs) g m = xor-zero-l g
+moved-first (Unpaired shops treated) g m =
+    ap (rank treated) (spread-first shops treated (choiceAt shops treated g) (choice-length shops treated g m) (choice-size shops treated g m)) ∙ at-rank shops treated g m
+
+pub entry-listed : (d : Design) (h g : ℕ) (xs : List ℤ) → h < rowCount d → g < rowCount d → length xs ≡ unitsOf d → entryOf d h (listed d g xs) ≡ entryOf d (moved d h g) xs
+unfolding moved rowCount unitsOf entryOf listed
+entry-listed (Paired pairs) h g xs l m e = signedSum-exchanged h g xs
+entry-listed (Unpaired shops treated) h g xs l m e =
+    contrast-listed shops treated (choiceAt shops treated g) (choiceAt shops treated h) xs (alike-long shops treated g h m l) (e ∙ sym (choice-length shops treated g m))
+    ∙ ap (λ (c : Choice). contrast shops treated c xs) (sym (spread-row shops treated g h m l .1))

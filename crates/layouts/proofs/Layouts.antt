@@ -7,7 +7,7 @@ use native.Mathlib.Omega.{arith}
 use native.Mathlib.Nat.{mul-le-mul}
 use native.Mathlib.Decide.{decLt}
 use mathlib.Core.Path.{_≡_, sym, ap, subst}
-use Rattle.limits.specs.Limits.{offersMost, pairsMost, figuresMost, longestFile}
+use Rattle.limits.specs.Limits.{offersMost, unitsMost, figuresMost, longestFile}
 use Rattle.trial.specs.Designs.{unitsOf}
 use Rattle.trial.specs.Record.{figureCount}
 use Rattle.trial.specs.declared.Shape.{Shape}
@@ -15,7 +15,7 @@ use Rattle.layouts.specs.Layouts.{levelAt, shapeAt, layoutOf, offerAt, f
 use Rattle.layouts.specs.declared.Layout.{Layout}
 
 -- an accepted shape
-module _ (s : Shape) (offers : s .offers ≤ offersMost) (units : unitsOf (s .design) ≤ pairsMost) where
+module _ (s : Shape) (offers : s .offers ≤ offersMost) (units : unitsOf (s .design) ≤ unitsMost) where
   pub count-most : figureCount s ≤ figuresMost
   unfolding figureCount
   count-most = mul-le-mul offers units
@@ -28,7 +28,7 @@ pub layout-made : (s : Shape) (u : ℕ) → u ≡ unitsOf (s .design) → record
 unfolding layoutOf figureCount
 layout-made s u e = ap (λ (n : ℕ). record { offers = 2; figures = 2 + s .offers * 1; end = 2 + s .offers * 1 + s .offers * n }) e
 
-pub length-most : (s : Shape) (l : Layout) → l ≡ layoutOf s → s .offers ≤ offersMost → unitsOf (s .design) ≤ pairsMost → 4 * (l .end + 1) ≤ longestFile
+pub length-most : (s : Shape) (l : Layout) → l ≡ layoutOf s → s .offers ≤ offersMost → unitsOf (s .design) ≤ unitsMost → 4 * (l .end + 1) ≤ longestFile
 length-most s l e h k = subst (λ (x : Layout). 4 * (x .end + 1) ≤ longestFile) (sym e) (words-most s h k)
 
 pub length-is : (s : Shape) (l : Layout) → l ≡ layoutOf s → 4 * (l .end + 1) ≡ 4 * wordTotal s

@@ -3,7 +3,7 @@
 use trial::Shape;
 ghost use mathlib.Core.Path.{_≡_};
 ghost use Prim.Native.Nat.{_≤_};
-ghost use Rattle.limits.specs.Limits.{offersMost, pairsMost};
+ghost use Rattle.limits.specs.Limits.{offersMost, unitsMost};
 ghost use Rattle.trial.specs.Designs.{unitsOf};
 ghost use Rattle.layouts.specs.Layouts.{layoutOf};
 
@@ -23,7 +23,7 @@ pub struct Layout {
 }
 
 pub fn of_shape(shape: Shape) -> Layout
-    requires { ⌜ (shape .offers ≤ offersMost) × (unitsOf (shape .design) ≤ pairsMost) ⌝ }
+    requires { ⌜ (shape .offers ≤ offersMost) × (unitsOf (shape .design) ≤ unitsMost) ⌝ }
     ensures { λ r. ⌜ r ≡ layoutOf shape ⌝ }
 {
     let design = shape.design;

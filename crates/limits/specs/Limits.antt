@@ -1,5 +1,6 @@
 -- The sizes that the promises speak of, each named once; src/lib.rt has the same for the code, and a proof fails where the two differ. Definitions only.
---   offersMost, pairsMost          the largest trial
+--   offersMost, pairsMost, shopsMost     the largest trial
+--   unitsMost                      the most figures of an offer: of shops without partners
 --   toleranceMost                  the largest k
 --   digitsMost                     the most printed digits of a code
 --   differenceMost                 the largest difference, of either sign
@@ -25,6 +26,12 @@ offersMost = 16
 abbrev pub pairsMost : ℕ
 pairsMost = 9
 
+abbrev pub shopsMost : ℕ
+shopsMost = 10
+
+abbrev pub unitsMost : ℕ
+unitsMost = shopsMost
+
 abbrev pub toleranceMost : ℕ
 toleranceMost = 4
 
@@ -38,9 +45,9 @@ abbrev pub levelMost : ℕ
 levelMost = 16383
 
 abbrev pub figuresMost : ℕ
-figuresMost = offersMost * pairsMost
+figuresMost = offersMost * unitsMost
 
--- 2 ^ pairsMost
+-- 2 ^ pairsMost; choices of shops are at most 252
 abbrev pub trialRowsMost : ℕ
 trialRowsMost = 512
 
@@ -58,7 +65,7 @@ columnsMost = 32
 abbrev pub stepsMost : ℕ
 stepsMost = 32
 
--- ---- files: 652 bytes, a level, a shape, offers, figures and an end
+-- ---- files: 716 bytes, a level, a shape, offers, figures and an end
 
 abbrev pub longestFile : ℕ
 longestFile = 4 * (2 + offersMost + figuresMost + 1)

@@ -4,6 +4,10 @@ pub const OFFERS_MOST: usize = 16;
 
 pub const PAIRS_MOST: usize = 9;
 
+pub const SHOPS_MOST: usize = 10;
+
+pub const UNITS_MOST: usize = SHOPS_MOST;
+
 pub const TOLERANCE_MOST: usize = 4;
 
 pub const DIGITS_MOST: usize = 7;
@@ -14,7 +18,7 @@ pub const DIFFERENCE_LEAST: i32 = -DIFFERENCE_MOST;
 
 pub const LEVEL_MOST: usize = 16383;
 
-pub const FIGURES_MOST: usize = OFFERS_MOST * PAIRS_MOST;
+pub const FIGURES_MOST: usize = OFFERS_MOST * UNITS_MOST;
 
 pub const TRIAL_ROWS_MOST: usize = 1 << PAIRS_MOST;
 

@@ -14,7 +14,7 @@ use mathlib.Core.Logic.{_↔_}
 use mathlib.Core.Bool.{Bool, true, false, cond, false≢true}
 use mathlib.Core.List.{[], _∷_, _++_}
 use lib.ListN.{getD}
-use Rattle.refusals.specs.Answers.{Refusal, r1, r2, r3, r4, r5, r6, r7, r8, r9, r10, r11, r12, r13, r14, number, Checks, answer, firstRefusal, condition, FirstAt, First}
+use Rattle.refusals.specs.Answers.{Refusal, r1, r2, r3, r4, r5, r6, r7, r8, r9, r10, r11, r12, r13, r14, r15, number, Checks, answer, firstRefusal, condition, FirstAt, First}
 
 -- ---- refusal numbers
 
@@ -33,6 +33,7 @@ number-some r11 = omega arith
 number-some r12 = omega arith
 number-some r13 = omega arith
 number-some r14 = omega arith
+number-some r15 = omega arith
 
 pub number-short : (r : Refusal) → number r ≤ 99
 number-short r1 = omega arith
@@ -49,6 +50,7 @@ number-short r11 = omega arith
 number-short r12 = omega arith
 number-short r13 = omega arith
 number-short r14 = omega arith
+number-short r15 = omega arith
 
 -- ---- no condition holds
 

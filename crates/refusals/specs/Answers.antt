@@ -1,5 +1,5 @@
 -- The form of every answer: a call is refused by the first condition that holds, in the stated order, and accepted where none does. Definitions only.
---   Refusal, number r      the refusals of document 01, and their numbers
+--   Refusal, number r      the refusals of documents 01 and 02, and their numbers
 --   Checks                 conditions with their refusals, in order
 --   placesFrom p i n       of n places from i on, the conditions p of each in turn
 --   answer cs accepted refused     what a call gives: `accepted`, or what goes with the number of the first condition that holds
@@ -30,6 +30,8 @@ pub data Refusal : Type 0 where
   r12 : Refusal
   r13 : Refusal
   r14 : Refusal
+  -- because of the input (document 02, §6)
+  r15 : Refusal
 
 abbrev pub number : Refusal → ℕ
 number r1 = 1
@@ -46,6 +48,7 @@ number r11 = 11
 number r12 = 12
 number r13 = 13
 number r14 = 14
+number r15 = 15
 
 abbrev pub Checks : Type 0
 Checks = List (Bool × Refusal)

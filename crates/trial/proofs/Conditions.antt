@@ -19,7 +19,7 @@ use mir.Syntax.{w32}
 use mir.Val.{toZ, ofZ}
 use mir.Facts.{toZ-ofZ}
 use borrow.Author.Tests.{ltb-true, ltb-false, lt-ltb, le-ltb, eq-eqb, ne-eqb}
-use Rattle.limits.specs.Limits.{offersMost, pairsMost, digitsMost, differenceMost}
+use Rattle.limits.specs.Limits.{offersMost, unitsMost, digitsMost, differenceMost}
 use Rattle.order.proofs.Booleans.{or-holds, or-passes, holds, passes}
 use Rattle.refusals.specs.Answers.{r3, r5, r6, r7, Checks, placesFrom, firstRefusal}
 use Rattle.refusals.specs.Limits.{outside, badColumns, badLevel}
@@ -175,7 +175,7 @@ module _ (t : Trial) (r : ℕ) (heading : r ≡ firstRefusal (headingChecks (t .
 
   module _ (passed : r ≡ 0) where
     -- no more offers and figures than the record has places for
-    pub places-held : (t .shape .offers ≤ offersMost) × (unitsOf (t .shape .design) ≤ pairsMost)
+    pub places-held : (t .shape .offers ≤ offersMost) × (unitsOf (t .shape .design) ≤ unitsMost)
     unfolding headingChecks
     places-held =
         let f = none-holds (headingChecks (t .level) (t .shape)) (sym heading ∙ passed) in

@@ -1,5 +1,9 @@
 pub mod Examples
 pub mod Sums
+pub mod Choices
+pub mod Ascending
+pub mod Listed
+pub mod Contrasts
 pub mod LaidOut
 pub mod Accepted
 pub mod Tables

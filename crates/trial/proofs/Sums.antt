@@ -14,7 +14,7 @@ use Rattle.order.specs.Counting.{all}
 use Rattle.order.proofs.Booleans.{digit-cases}
 use Rattle.order.proofs.Counts.{all-getD}
 use Rattle.limits.specs.Limits.{differenceMost}
-use Rattle.trial.specs.Designs.{exchanged, signedSum, exchangedBy}
+use Rattle.trial.specs.Pairs.{exchanged, signedSum, exchangedBy}
 use Rattle.trial.specs.Refusals.{badDifference}
 use Rattle.trial.specs.Internal.{Ranged}
 
@@ -33,7 +33,7 @@ abs-add (pos a) (negsuc b) = abs-sub a (suc b)
 abs-add (negsuc a) (pos b) = omega (arith, abs-sub b (suc a))
 abs-add (negsuc a) (negsuc b) = omega arith
 
-abs-neg : (a : ℤ) → natAbs (negℤ a) ≡ natAbs a
+pub abs-neg : (a : ℤ) → natAbs (negℤ a) ≡ natAbs a
 abs-neg (pos zero) = refl
 abs-neg (pos (suc n)) = refl
 abs-neg (negsuc n) = refl

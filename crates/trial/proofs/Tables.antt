@@ -24,21 +24,21 @@ use Rattle.order.proofs.Booleans.{and-both, and-left, and-right}
 use Rattle.order.proofs.Counts.{all-map, all-le}
 use Rattle.order.proofs.Lists.{tabulate-length, tabulate-getD, all-tabulate, all-take, all-drop, rowsOf-length, rowsOf-joined, joined-length}
 use Rattle.order.proofs.Rows.{Sound, soundRow, sound-row}
-use Rattle.limits.specs.Limits.{pairsMost}
-use Rattle.trial.specs.Designs.{unitsOf, entryOf}
+use Rattle.refusals.proofs.Answers.{NoneHolds}
+use Rattle.trial.specs.Designs.{designChecks, unitsOf, entryOf}
 use Rattle.trial.specs.Record.{figureCount, figuresOf}
 use Rattle.trial.specs.Exchange.{byOffer, rowTotal, rowOf, trialRows, tableOf}
 use Rattle.trial.specs.Refusals.{badDifference}
 use Rattle.trial.specs.declared.Trial.{Trial}
 use Rattle.trial.specs.declared.Design.{Design}
 use Rattle.order.proofs.Whole.{whole-finite}
-use Rattle.trial.proofs.Sums.{InRange}
-use Rattle.trial.proofs.LaidOut.{rowCount-some, entry-small}
+use Rattle.trial.proofs.Sums.{InRange, all-in-range}
+use Rattle.trial.proofs.LaidOut.{entry-small}
 use Rattle.trial.proofs.Accepted.{Accepted}
 
 -- ---- differences, offer by offer
 
-drop-take : {A : Type 0} (n m : ℕ) (xs : List A) → drop n (take (n + m) xs) ≡ take m (drop n xs)
+pub drop-take : {A : Type 0} (n m : ℕ) (xs : List A) → drop n (take (n + m) xs) ≡ take m (drop n xs)
 drop-take n m xs = ap (drop n) (take-add n m xs) ∙ seam (decLe n (length xs))
   where
     seam : Dec (n ≤ length xs) → drop n (take n xs ++ take m (drop n xs)) ≡ take m (drop n xs)
@@ -93,18 +93,18 @@ pub rowOf-length : (t : Trial) (g : ℕ) → length (rowOf t g) ≡ t .shape .of
 unfolding rowOf
 rowOf-length t g = length-map (byOffer t) (λ xs. ofInt binary64 (entryOf (t .shape .design) g xs)) ∙ byOffer-length t
 
-ok-small : (d : Design) (g : ℕ) (xs : List ℤ) → unitsOf d ≤ pairsMost → T (okOffer (unitsOf d) xs) → natAbs (entryOf d g xs) ≤ 2 ^ 53
+ok-small : (d : Design) (g : ℕ) (xs : List ℤ) → NoneHolds (designChecks d) → T (okOffer (unitsOf d) xs) → natAbs (entryOf d g xs) ≤ 2 ^ 53
 unfolding okOffer
 ok-small d g xs h t =
     let n = unitsOf d in
-    entry-small d g xs h (leb→le (length xs) n (and-left (leb (length xs) n) (all (λ d. not (badDifference d)) xs) t)) (and-right (leb (length xs) n) (all (λ d. not (badDifference d)) xs) t)
+    entry-small d g xs h (leb→le (length xs) n (and-left (leb (length xs) n) (all (λ d. not (badDifference d)) xs) t)) (all-in-range xs (and-right (leb (length xs) n) (all (λ d. not (badDifference d)) xs) t))
 
 -- the entries of a row are small
 pub entries-small : (t : Trial) (g : ℕ) → Accepted t → T (all (λ xs. leb (natAbs (entryOf (t .shape .design) g xs)) (2 ^ 53)) (byOffer t))
 unfolding byOffer
 entries-small t g acc =
     let d = t .shape .design in
-    all-le (okOffer (unitsOf d)) (λ xs. leb (natAbs (entryOf d g xs)) (2 ^ 53)) (byOffer t) (λ xs u. le→leb (natAbs (entryOf d g xs)) (2 ^ 53) (ok-small d g xs (acc .laid .units-most) u))
+    all-le (okOffer (unitsOf d)) (λ xs. leb (natAbs (entryOf d g xs)) (2 ^ 53)) (byOffer t) (λ xs u. le→leb (natAbs (entryOf d g xs)) (2 ^ 53) (ok-small d g xs (acc .layout-good) u))
     (offers-ok (t .shape .offers) (unitsOf d) (figuresOf t) (subst (λ (l : List ℤ). InRange l) (sym (used-twice t)) (acc .in-range)))
 
 -- what holds of every whole number up to 2^53 as an f64 holds of a row's values
@@ -141,9 +141,9 @@ tableOf-rows t =
     ap (λ (m : ℕ). rowsOf m (t .shape .offers) (joined (trialRows t))) (sym (trialRows-length t))
     ∙ rowsOf-joined (t .shape .offers) (trialRows t) (even-rows t)
 
-pub rowTotal-some : (t : Trial) → 0 < rowTotal t
+pub rowTotal-some : (t : Trial) → Accepted t → 0 < rowTotal t
 unfolding rowTotal
-rowTotal-some t = rowCount-some (t .shape .design)
+rowTotal-some t acc = acc .laid .rows-some
 
 pub tableOf-length : (t : Trial) → length (tableOf t) ≡ rowTotal t * t .shape .offers
 unfolding tableOf

@@ -1,58 +1,70 @@
 -- How a trial was laid out, and all that goes by its cases: nothing else of a trial knows them. Definitions only.
---   exchanged b d        a difference, with its sign changed where the shops of its pair are exchanged
---   signedSum g ds       the sum of differences, that of pair j (from 0) exchanged where bit j of g is 1
---   exchangedBy g ds     the differences, each exchanged where its bit of g is 1
---   designChecks d       what a layout is turned away for: pairs outside their range (4)
---   unitsOf d            figures of an offer: one of each pair
---   rowCount d           M: the rows of the table, one for each way to exchange the shops of pairs
+--   sameFigure x y       two figures are equal
+--   alike z xs           every figure equals z
+--   designChecks d       what a layout is turned away for: pairs outside their range (4), shops or treated outside theirs (15)
+--   unitsOf d            figures of an offer: one of each pair, or of each shop
+--   rowCount d           M: the rows of the table, one for each way to exchange the shops of pairs, or for each choice of shops
 --   entryOf d g xs       the whole number in row g of an offer with the figures xs
 --   listed d g xs        what run g of demand 3 lists as the figures of an idle offer that has the figures xs
---   untested d xs        an offer with the figures xs has not been tested (document 02, §4): every difference is 0
-use Prim.Native.Nat.{ℕ, _/_, _%_, _^_}
-use mathlib.Core.Bool.{Bool, true, false}
+--   yardstick d xs       what the figures xs are compared with: 0 in pairs, the first figure in shops
+--   untested d xs        an offer with the figures xs has not been tested and is set aside: every difference is 0 (document 02, §4), or the
+--                        figures are equal in all shops (§6)
+use Prim.Native.Nat.{ℕ, _-_, _^_}
+use mathlib.Core.Bool.{Bool, false, _||_}
 use mathlib.Core.List.{List, [], _∷_}
 use lib.Dec.{eqb}
-use lib.IntN.{ℤ, pos, natAbs, negℤ, _+ℤ_}
-use Rattle.limits.specs.Limits.{pairsMost}
+use lib.ListN.{length, getD}
+use lib.IntN.{ℤ, pos, negsuc}
+use Rattle.limits.specs.Limits.{pairsMost, shopsMost}
 use Rattle.order.specs.Counting.{all}
-use Rattle.refusals.specs.Answers.{r4, Checks}
+use Rattle.refusals.specs.Answers.{r4, r15, Checks}
 use Rattle.refusals.specs.Limits.{outside}
+use Rattle.trial.specs.Pairs.{signedSum, exchangedBy}
+use Rattle.trial.specs.Choices.{choices, choiceAt, contrast, chosenFirst}
 use Rattle.trial.specs.declared.Design.{Design}
-use Rattle.trial.specs.declared.Design.the-variants.{Paired}
+use Rattle.trial.specs.declared.Design.the-variants.{Paired, Unpaired}
 
--- ---- pairs
+unfoldable pub sameFigure : ℤ → ℤ → Bool
+sameFigure (pos m) (pos n) = eqb m n
+sameFigure (pos m) (negsuc n) = false
+sameFigure (negsuc m) (pos n) = false
+sameFigure (negsuc m) (negsuc n) = eqb m n
 
-abbrev pub exchanged : Bool → ℤ → ℤ
-exchanged true d = negℤ d
-exchanged false d = d
-
-unfoldable pub signedSum : ℕ → List ℤ → ℤ
-signedSum g [] = pos 0
-signedSum g (d ∷ ds) = exchanged (eqb (g % 2) 1) d +ℤ signedSum (g / 2) ds
-
-unfoldable pub exchangedBy : ℕ → List ℤ → List ℤ
-exchangedBy g [] = []
-exchangedBy g (d ∷ ds) = exchanged (eqb (g % 2) 1) d ∷ exchangedBy (g / 2) ds
+unfoldable pub alike : ℤ → List ℤ → Bool
+unfolding all sameFigure
+alike z xs = all (λ x. sameFigure x z) xs
 
 -- ---- by cases
 
 unfoldable pub designChecks : Design → Checks
 designChecks (Paired pairs) = (outside 1 pairsMost pairs, r4) ∷ []
+designChecks (Unpaired shops treated) = (outside 2 shopsMost shops || outside 1 (shops - 1) treated, r15) ∷ []
 
 unfoldable pub unitsOf : Design → ℕ
 unitsOf (Paired pairs) = pairs
+unitsOf (Unpaired shops treated) = shops
 
 unfoldable pub rowCount : Design → ℕ
+unfolding choices
 rowCount (Paired pairs) = 2 ^ pairs
+rowCount (Unpaired shops treated) = length (choices shops treated)
 
 unfoldable pub entryOf : Design → ℕ → List ℤ → ℤ
-unfolding signedSum
+unfolding signedSum choices contrast
 entryOf (Paired pairs) g xs = signedSum g xs
+entryOf (Unpaired shops treated) g xs = contrast shops treated (choiceAt shops treated g) xs
 
 unfoldable pub listed : Design → ℕ → List ℤ → List ℤ
-unfolding exchangedBy
+unfolding exchangedBy choices chosenFirst
 listed (Paired pairs) g xs = exchangedBy g xs
+listed (Unpaired shops treated) g xs = chosenFirst (choiceAt shops treated g) xs
+
+unfoldable pub yardstick : Design → List ℤ → ℤ
+yardstick (Paired pairs) xs = pos 0
+yardstick (Unpaired shops treated) xs = getD xs 0 (pos 0)
+
+-- ---- set aside
 
 unfoldable pub untested : Design → List ℤ → Bool
-unfolding all
-untested (Paired pairs) xs = all (λ x. eqb (natAbs x) 0) xs
+unfolding alike yardstick
+untested d xs = alike (yardstick d xs) xs

@@ -1,3 +1,6 @@
+pub mod Pairs
+pub mod Choices
+pub mod Ascending
 pub mod Designs
 pub mod Record
 pub mod Exchange

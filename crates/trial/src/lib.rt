@@ -9,6 +9,7 @@ pub use checks::bad_difference;
 pub use checks::bad_digits;
 pub use checks::first_of;
 pub use checks::offer_refusal;
+pub use designs::choice_count;
 pub use designs::design_refusal;
 pub use designs::units;
 use limits::FIGURES_MOST;
@@ -23,9 +24,10 @@ pub struct Level {
     pub b: usize,
 }
 
-// How a trial was laid out: in so many pairs.
+// How a trial was laid out: in so many pairs, or in shops without partners, so many of them treated.
 pub enum Design {
     Paired(usize),
+    Unpaired(usize, usize),
 }
 
 // The tolerance k, how many offers there are, and how the trial was laid out.
@@ -41,7 +43,8 @@ pub struct Labels {
     pub digits: [u8; OFFERS_MOST],
 }
 
-// A trial, by value. Figures stand offer by offer: those of a paired trial are the differences of its pairs.
+// A trial, by value. Figures stand offer by offer: those of a paired trial are the differences of its pairs, those of shops
+// without partners one for each shop, treated shops first.
 // Places that the shape doesn't use are never looked at.
 pub struct Trial {
     pub level: Level,

@@ -4,7 +4,7 @@ use crate::designs;
 ghost use mathlib.Core.Path.{_≡_};
 ghost use mathlib.Core.Bool.{not};
 ghost use Prim.Native.Nat.{_+_, _*_, _^_, _≤_, _<_};
-ghost use Rattle.limits.specs.Limits.{offersMost, pairsMost};
+ghost use Rattle.limits.specs.Limits.{offersMost, unitsMost};
 ghost use Rattle.order.specs.Counting.{bit};
 ghost use Rattle.trial.specs.Designs.{unitsOf};
 ghost use Rattle.trial.specs.Aside.{liveMask};
@@ -22,7 +22,7 @@ fn with_first(later: u32, aside: bool) -> u32
 
 // The offers that take part, looked at from the last to the first.
 pub(crate) fn mask(t: Trial) -> u32
-    requires { ⌜ (t .shape .offers ≤ offersMost) × (unitsOf (t .shape .design) ≤ pairsMost) ⌝ }
+    requires { ⌜ (t .shape .offers ≤ offersMost) × (1 ≤ unitsOf (t .shape .design)) × (unitsOf (t .shape .design) ≤ unitsMost) ⌝ }
     ensures { λ r. ⌜ r ≡ liveMask t ⌝ }
 {
     let shape = t.shape;

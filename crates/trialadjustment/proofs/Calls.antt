@@ -27,7 +27,7 @@ module _ (t : Trial) (table work : List Float) (s : TableSize) (q : s ≡ runSiz
 
   pub figurable : Passable (take (s .rows * s .columns) w) (s .rows) (s .columns) (t .shape .k) 0 (s .live)
   figurable = rw (front t table work s q w e z, rows-are t table work s q w e z, columns-are t table work s q w e z, live-is t table work s q w e z)
-      (record { ready = table-checked t (good t table work s q w e z); seen = rowTotal-some t; live-fits = live-fits t })
+      (record { ready = table-checked t (good t table work s q w e z); seen = rowTotal-some t (good t table work s q w e z); live-fits = live-fits t })
 
   figures-are : adjustedFigures (rowsOf (s .rows) (s .columns) (take (s .rows * s .columns) w)) (s .rows) (s .columns) (t .shape .k) 0 (s .live) ≡ trialFigures t
   unfolding trialFigures

@@ -14,7 +14,7 @@ use Rattle.adjustment.specs.Examples.{examples}
 use Rattle.adjustment.proofs.Examples.{all-examples}
 use Rattle.trial.specs.Aside.{liveMask}
 use Rattle.trial.specs.Exchange.{rowTotal}
-use Rattle.trial.specs.Examples.{trialWith, trialW, trialAside, trialCancelled, trialZeros}
+use Rattle.trial.specs.Examples.{trialWith, trialW, trialAside, trialCancelled, trialZeros, trialShops, twoShops}
 use Rattle.trialadjustment.specs.TrialFigures.{trialFigures}
 
 table-w : tableFigures W 8 2 1 0 ≡ 1 ∷ 3 ∷ []
@@ -40,3 +40,8 @@ cancelled-figures = refl
 pub zeros-figures : trialFigures trialZeros ≡ 2 ∷ 2 ∷ []
 unfolding trialFigures trialZeros lt le
 zeros-figures = refl
+
+-- shops without partners (document 02, §6)
+pub shops-figures : (trialFigures trialShops ≡ 1 ∷ 5 ∷ []) × (trialFigures twoShops ≡ 1 ∷ 2 ∷ [])
+unfolding trialFigures trialShops twoShops lt le
+shops-figures = (refl, refl)

@@ -85,23 +85,23 @@ module _ (t : Trial) where
     unfolding trialFigures
     trial-pass held =
         ap (λ (K : Columns). kMaxPass (t .shape .k) X K 0) (sym (live-columns t))
-        ∙ kMaxPass-agrees X (rowTotal t) (t .shape .offers) (t .shape .k) 0 (liveMask t) (trialRows-sound t acc) tall (rowTotal-some t) narrow (acc .k-some) (omega (arith, ap size (live-columns t)))
+        ∙ kMaxPass-agrees X (rowTotal t) (t .shape .offers) (t .shape .k) 0 (liveMask t) (trialRows-sound t acc) tall (rowTotal-some t acc) narrow (acc .k-some) (omega (arith, ap size (live-columns t)))
 
     pub trial-without : within (liveOffers t) (trialFigures t) ≡ tableFigures (remainingTable t) (rowTotal t) (size (liveOffers t)) (t .shape .k) 0
     unfolding trialFigures tableFigures
     trial-without =
         subst (λ (L : Columns). within L (adjustedFigures X (rowTotal t) (t .shape .offers) (t .shape .k) 0 (liveMask t)) ≡ adjustedFigures (map (within L) X) (rowTotal t) (size L) (t .shape .k) 0 (fullMask (size L))) (live-columns t)
-        (figures-without X (rowTotal t) (t .shape .offers) (t .shape .k) 0 (liveMask t) (trialRows-sound t acc) (omega (arith, tall, rowTotal-some t)))
+        (figures-without X (rowTotal t) (t .shape .offers) (t .shape .k) 0 (liveMask t) (trialRows-sound t acc) (omega (arith, tall, rowTotal-some t acc)))
         ∙ ap (λ (Y : List (List Float)). adjustedFigures Y (rowTotal t) (size (liveOffers t)) (t .shape .k) 0 (fullMask (size (liveOffers t)))) (sym (remaining-rows t ok))
 
     module _ (i : ℕ) (h : i < t .shape .offers) where
       pub trial-stays : (e e′ : ℕ) → e ≤ e′ → e′ < rowTotal t → T (rejectedOf t e i) → T (rejectedOf t e′ i)
-      trial-stays = stays-rejected X (rowTotal t) (t .shape .offers) (t .shape .k) 0 (liveMask t) i h (trialRows-sound t acc) tall (rowTotal-some t) narrow (acc .k-some)
+      trial-stays = stays-rejected X (rowTotal t) (t .shape .offers) (t .shape .k) 0 (liveMask t) i h (trialRows-sound t acc) tall (rowTotal-some t acc) narrow (acc .k-some)
 
       pub trial-figure-law : (e : ℕ) → e < rowTotal t → (getD (trialFigures t) i 0 ≤ e) ↔ T (rejectedOf t e i)
       trial-figure-law e rare = subst (λ (f : ℕ). (f ≤ e) ↔ T (rejectedOf t e i)) (sym (figure-at i h))
-          (figure-law X (rowTotal t) (t .shape .offers) (t .shape .k) 0 (liveMask t) i h (trialRows-sound t acc) tall (rowTotal-some t) narrow (acc .k-some) e rare)
+          (figure-law X (rowTotal t) (t .shape .offers) (t .shape .k) 0 (liveMask t) i h (trialRows-sound t acc) tall (rowTotal-some t acc) narrow (acc .k-some) e rare)
 
       pub trial-law : (getD (trialFigures t) i 0 ≤ allowance (rowTotal t) (t .level .a) (t .level .b)) ↔ T (isRejected (getD (trialRun t .verdicts) i (Kept plusZero)))
       unfolding trialRun rejectedAt
-      trial-law = trial-figure-law (allowance (rowTotal t) (t .level .a) (t .level .b)) (allowance-lt (rowTotal t) (t .level .a) (t .level .b) (rowTotal-some t) (acc .levelled .proper))
+      trial-law = trial-figure-law (allowance (rowTotal t) (t .level .a) (t .level .b)) (allowance-lt (rowTotal t) (t .level .a) (t .level .b) (rowTotal-some t acc) (acc .levelled .proper))

@@ -132,7 +132,7 @@ module _ (t : Trial) where
 
     pub trial-counts : trialBalancedRun t .counts ≡ trialRun t .counts
     unfolding trialBalancedRun trialRun
-    trial-counts = run-counts (trialRows t) (trialStart t) (trialRows-sound t acc) few (omega (arith, trialRows-length t, rowTotal-some t))
+    trial-counts = run-counts (trialRows t) (trialStart t) (trialRows-sound t acc) few (omega (arith, trialRows-length t, rowTotal-some t acc))
 
     pub balanced-without : Without t (trialBalancedRun t) (balancedRun (remainingTable t) (rowTotal t) (size (liveOffers t)) (t .shape .k) (t .level .a) (t .level .b) 0)
     unfolding trialBalancedRun

@@ -11,5 +11,5 @@ trialSaffron = record {
   level = record { a = 1; b = 4 };
   shape = record { k = 1; offers = 2; design = Paired 3 };
   labels = record { codes = 4011 ∷ 907 ∷ replicate 14 0; digits = 4 ∷ 4 ∷ replicate 14 0 };
-  figures = pos 500 ∷ negsuc 299 ∷ pos 200 ∷ pos 3 ∷ pos 2 ∷ pos 1 ∷ replicate 138 (pos 0);
+  figures = pos 500 ∷ negsuc 299 ∷ pos 200 ∷ pos 3 ∷ pos 2 ∷ pos 1 ∷ replicate 154 (pos 0);
 }

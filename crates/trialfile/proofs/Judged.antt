@@ -14,7 +14,7 @@ use lib.Dec.{ltb, eqb}
 use lib.IntN.{ℤ}
 use mir.Syntax.{w32}
 use mir.Val.{toZ, ofZ}
-use Rattle.limits.specs.Limits.{offersMost, pairsMost}
+use Rattle.limits.specs.Limits.{offersMost, unitsMost}
 use Rattle.order.specs.Lists.{tabulate, padded}
 use Rattle.order.proofs.Booleans.{holds, passes}
 use Rattle.order.proofs.Lists.{tabulate-length, tabulate-getD}
@@ -29,9 +29,9 @@ use Rattle.trial.specs.declared.Level.{Level}
 use Rattle.trial.specs.declared.Shape.{Shape}
 use Rattle.trial.proofs.Conditions.{offer-same}
 use Rattle.trial.proofs.LaidOut.{laid-out}
-use Rattle.words.specs.Words.{wordsOf, word, kindOf, unusedOf, kOf, offersOf, differenceOf, countOf}
+use Rattle.words.specs.Words.{wordsOf, word, kindOf, differenceOf, countOf}
 use Rattle.layouts.specs.Layouts.{levelAt, shapeAt, layoutOf, offerAt, figureAt}
-use Rattle.words.specs.Words.{levelIn, shapeIn}
+use Rattle.words.specs.Words.{levelIn, noShape, spareOf, shapeIn}
 use Rattle.trialfile.specs.Files.{codeIn, digitsIn, badLength, otherKind, levelPlace, shapePlace, offerPlace, figurePlace, endPlace, bodyPlaces, placeChecks, fileChecks, fileRefusal}
 use Rattle.layouts.specs.declared.Layout.{Layout}
 use Rattle.words.proofs.Signed.{field-kept}
@@ -51,12 +51,12 @@ either false c n m = refl
 pub level-judged : (w q r v : ℕ) (l : Level) (b : Bool) → q ≡ kindOf w → l ≡ levelIn w → b ≡ badLevel (l .a) (l .b) → v ≡ cond b 3 0 → r ≡ cond (not (eqb q 1)) 2 v → r ≡ firstRefusal (levelPlace w)
 level-judged w q r v l b e f g h k = kind-first w w q 1 _ r v refl e k (judged-last b _ r3 v (g ∙ ap (λ (x : Level). badLevel (x .a) (x .b)) f) h)
 
-pub shape-judged : (w q u : ℕ) (s : Shape) (b : Bool) (laid spare four r : ℕ) → q ≡ kindOf w → s ≡ shapeIn w → b ≡ badColumns offersMost (s .offers) (s .k) → u ≡ unusedOf w
-    → laid ≡ firstRefusal (designChecks (s .design)) → spare ≡ cond (not (eqb u 0)) 4 laid → four ≡ cond b 4 spare → r ≡ cond (not (eqb q 2)) 2 four → r ≡ firstRefusal (shapePlace w)
-shape-judged w q u s b laid spare four r e f g h l m n k =
-    kind-first w w q 2 _ r four refl e k
+pub shape-judged : (w u : ℕ) (o b : Bool) (s : Shape) (laid spare four r : ℕ) → o ≡ noShape w → s ≡ shapeIn w → b ≡ badColumns offersMost (s .offers) (s .k) → u ≡ spareOf w
+    → laid ≡ firstRefusal (designChecks (s .design)) → spare ≡ cond (not (eqb u 0)) 4 laid → four ≡ cond b 4 spare → r ≡ cond o 2 four → r ≡ firstRefusal (shapePlace w)
+shape-judged w u o b s laid spare four r e f g h l m n k =
+    judged o _ r2 r e _ four
     (judged (b || not (eqb u 0)) _ r4 four (ap₂ _||_ (g ∙ ap (λ (x : Shape). badColumns offersMost (x .offers) (x .k)) f) (ap (λ (x : ℕ). not (eqb x 0)) h)) _ laid
-    (l ∙ ap (λ (x : Shape). firstRefusal (designChecks (x .design))) f) (n ∙ ap (cond b 4) m ∙ either b (not (eqb u 0)) 4 laid))
+    (l ∙ ap (λ (x : Shape). firstRefusal (designChecks (x .design))) f) (n ∙ ap (cond b 4) m ∙ either b (not (eqb u 0)) 4 laid)) k
 
 pub offer-judged : (w q i v r : ℕ) (codes digits : List ℕ) → q ≡ kindOf w → v ≡ firstRefusal (offerChecks (nth codes 0) (nth digits 0) i) → r ≡ cond (not (eqb q 3)) 2 v
     → r ≡ firstRefusal ((otherKind 3 w, r2) ∷ offerChecks (nth codes 0) (nth digits 0) i)
@@ -120,11 +120,11 @@ module _ (ws : List ℕ) (s : Shape) (l : Layout) (at : l ≡ layoutOf s) where
 -- ---- the whole file
 
 -- the counts of a shape that passes
-pub shape-most : (w r : ℕ) (s : Shape) → r ≡ firstRefusal (shapePlace w) → r ≡ 0 → s ≡ shapeIn w → (s .offers ≤ offersMost) × (unitsOf (s .design) ≤ pairsMost)
+pub shape-most : (w r : ℕ) (s : Shape) → r ≡ firstRefusal (shapePlace w) → r ≡ 0 → s ≡ shapeIn w → (s .offers ≤ offersMost) × (unitsOf (s .design) ≤ unitsMost)
 shape-most w r s f z e =
     let h = none-holds (shapePlace w) (sym f ∙ z) in
-    let c = or-none (badColumns offersMost (offersOf w) (kOf w)) (not (eqb (unusedOf w) 0)) (h .1 .0) in
-    subst (λ (x : Shape). (x .offers ≤ offersMost) × (unitsOf (x .design) ≤ pairsMost)) (sym e) (fitting offersMost (offersOf w) (kOf w) (c .0) .columns-most, laid-out (shapeIn w .design) (h .1 .1) .units-most)
+    let c = or-none (badColumns offersMost (shapeIn w .offers) (shapeIn w .k)) (not (eqb (spareOf w) 0)) (h .1 .0) in
+    subst (λ (x : Shape). (x .offers ≤ offersMost) × (unitsOf (x .design) ≤ unitsMost)) (sym e) (fitting offersMost (shapeIn w .offers) (shapeIn w .k) (c .0) .columns-most, laid-out (shapeIn w .design) (h .1 .1) .units-most)
 
 module _ (bs : List ℕ) (b : Bool) (r : b ≡ badLength bs) where
   abbrev ws : List ℕ

@@ -30,9 +30,9 @@ use Rattle.trial.specs.declared.Shape.{Shape}
 use Rattle.trial.proofs.Conditions.{offer-same}
 use Rattle.trial.proofs.LaidOut.{laid-out}
 use Rattle.trial.proofs.Unused.{contents-filled}
-use Rattle.words.specs.Words.{wordsOf, word, kindOf, unusedOf, countOf}
+use Rattle.words.specs.Words.{wordsOf, word, kindOf, countOf}
 use Rattle.layouts.specs.Layouts.{levelAt, shapeAt, layoutOf, wordTotal}
-use Rattle.words.specs.Words.{levelIn, shapeIn}
+use Rattle.words.specs.Words.{levelIn, noShape, spareOf, shapeIn}
 use Rattle.trialfile.specs.Files.{codeIn, digitsIn, figureIn, contentsIn, trialOf, badLength, otherKind, offerPlace, figurePlace, endPlace, bodyPlaces, placeChecks, fileChecks, fileRefusal}
 use Rattle.layouts.specs.declared.Layout.{Layout}
 use Rattle.layouts.proofs.Layouts.{count-most}
@@ -59,9 +59,9 @@ module _ (ws : List ℕ) where
 pub record Passed (ws : List ℕ) : Type 0 where
   pub level-stands : kindOf (word ws levelAt) ≡ 1
   pub level-good : badLevel (levelIn (word ws levelAt) .a) (levelIn (word ws levelAt) .b) ≡ false
-  pub shape-stands : kindOf (word ws shapeAt) ≡ 2
+  pub shape-stands : noShape (word ws shapeAt) ≡ false
   pub counts : badColumns offersMost (s ws .offers) (s ws .k) ≡ false
-  pub unused : unusedOf (word ws shapeAt) ≡ 0
+  pub unused : spareOf (word ws shapeAt) ≡ 0
   pub laid : NoneHolds (designChecks (s ws .design))
   pub offers : (i : ℕ) → i < s ws .offers → NoneHolds (offerPlace ws (l ws) i)
   pub figures : (i : ℕ) → i < figureCount (s ws) → NoneHolds (figurePlace ws (l ws) i)
@@ -72,7 +72,7 @@ pub record Passed (ws : List ℕ) : Type 0 where
 passed : (ws : List ℕ) → NoneHolds (placeChecks ws) → Passed ws
 unfolding placeChecks bodyPlaces
 passed ws h =
-    let c = or-none (badColumns offersMost (s ws .offers) (s ws .k)) (not (eqb (unusedOf (word ws shapeAt)) 0)) (h .1 .1 .1 .0) in
+    let c = or-none (badColumns offersMost (s ws .offers) (s ws .k)) (not (eqb (spareOf (word ws shapeAt)) 0)) (h .1 .1 .1 .0) in
     let os = placesFrom (offerPlace ws (l ws)) 0 (s ws .offers) in
     let fs = placesFrom (figurePlace ws (l ws)) 0 (figureCount (s ws)) in
     let b = none-append (designChecks (s ws .design)) (os ++ (fs ++ endPlace ws (l ws .end))) (h .1 .1 .1 .1) in
@@ -83,9 +83,9 @@ passed ws h =
     record {
       level-stands = right-kind 1 (word ws levelAt) (h .0);
       level-good = h .1 .0;
-      shape-stands = right-kind 2 (word ws shapeAt) (h .1 .1 .0);
+      shape-stands = h .1 .1 .0;
       counts = c .0;
-      unused = eqb-true (unusedOf (word ws shapeAt)) 0 (not-false (eqb (unusedOf (word ws shapeAt)) 0) (c .1));
+      unused = eqb-true (spareOf (word ws shapeAt)) 0 (not-false (eqb (spareOf (word ws shapeAt)) 0) (c .1));
       laid = b .0;
       offers = places-each (offerPlace ws (l ws)) (s ws .offers) (o .0);
       figures = places-each (figurePlace ws (l ws)) (figureCount (s ws)) (d .0);

@@ -12,7 +12,7 @@ use mathlib.Core.Path.{_≡_, refl, sym, ap, ap₂, _∙_, subst}
 use mathlib.Core.List.{List}
 use lib.ListN.{length}
 use lib.IntN.{ℤ, pos}
-use Rattle.limits.specs.Limits.{offersMost, pairsMost, figuresMost}
+use Rattle.limits.specs.Limits.{offersMost, unitsMost, figuresMost}
 use Rattle.order.specs.Lists.{tabulate, padded}
 use Rattle.refusals.specs.Answers.{firstRefusal}
 use Rattle.refusals.proofs.Answers.{answer-map}
@@ -34,11 +34,11 @@ use Rattle.words.proofs.Words.{wordsOf-length}
 use Rattle.trialfile.proofs.Passed.{trial-accepted, trial-lengths, file-passed}
 use Rattle.refusals.proofs.Answers as answers
 
-pub shape-fits : (bs : List ℕ) → fileRefusal bs ≡ 0 → (v : ℕ) (s : Shape) → v ≡ word (wordsOf bs) shapeAt → s ≡ shapeIn v → (s .offers ≤ offersMost) × (unitsOf (s .design) ≤ pairsMost)
+pub shape-fits : (bs : List ℕ) → fileRefusal bs ≡ 0 → (v : ℕ) (s : Shape) → v ≡ word (wordsOf bs) shapeAt → s ≡ shapeIn v → (s .offers ≤ offersMost) × (unitsOf (s .design) ≤ unitsMost)
 shape-fits bs h v s e f =
     let p = file-passed bs h .words-good in
     let w = word (wordsOf bs) shapeAt in
-    subst (λ (x : Shape). (x .offers ≤ offersMost) × (unitsOf (x .design) ≤ pairsMost)) (sym (f ∙ ap shapeIn e))
+    subst (λ (x : Shape). (x .offers ≤ offersMost) × (unitsOf (x .design) ≤ unitsMost)) (sym (f ∙ ap shapeIn e))
     (fitting offersMost (shapeIn w .offers) (shapeIn w .k) (p .counts) .columns-most, laid-out (shapeIn w .design) (p .laid) .units-most)
 
 -- an accepted file has all its words

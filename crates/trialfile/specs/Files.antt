@@ -3,7 +3,7 @@
 --   contentsIn, trialOf    the contents and the trial that words hold, by position
 --   badLength bytes        the condition of 1
 --   otherKind kind w       the condition of 2: the word is missing or of another kind
---   levelPlace, shapePlace           the level: 2, 3; the shape: 2, 4, and what its layout adds
+--   levelPlace, shapePlace           the level: 2, 3; the shape: 2, 4, and what its layout adds (15 of shops)
 --   offerPlace, figurePlace          an offer: 2, 5, 6; a figure: 2, 7
 --   endPlace               the end: 2, 8
 --   bodyPlaces             the words after the shape: offers, figures, end
@@ -26,7 +26,7 @@ use Rattle.trial.specs.Record.{figureCount, Contents, filled, blank}
 use Rattle.trial.specs.Refusals.{badDigits, among, badDifference, earlier, offerChecks, figureChecks}
 use Rattle.trial.specs.declared.Shape.{Shape}
 use Rattle.trial.specs.declared.Trial.{Trial}
-use Rattle.words.specs.Words.{wordsOf, word, kindOf, levelKind, shapeKind, offerKind, differenceKind, endKind, aOf, bOf, unusedOf, kOf, offersOf, levelIn, shapeIn, digitsOf, codeOf, differenceOf, countOf}
+use Rattle.words.specs.Words.{wordsOf, word, kindOf, levelKind, offerKind, differenceKind, endKind, aOf, bOf, levelIn, noShape, spareOf, shapeIn, digitsOf, codeOf, differenceOf, countOf}
 use Rattle.layouts.specs.Layouts.{levelAt, shapeAt, layoutOf, offerAt, figureAt}
 use Rattle.layouts.specs.declared.Layout.{Layout}
 use Rattle.trialfile.specs.declared.Reading.{Reading}
@@ -43,7 +43,7 @@ abbrev pub figureIn : List ℕ → Layout → ℕ → ℤ
 figureIn ws l i = differenceOf (word ws (figureAt l i))
 
 unfoldable pub contentsIn : List ℕ → Contents
-unfolding tabulate layoutOf figureCount
+unfolding tabulate layoutOf figureCount shapeIn
 contentsIn ws =
     let s = shapeIn (word ws shapeAt) in
     let l = layoutOf s in
@@ -69,9 +69,8 @@ levelPlace w = (otherKind levelKind w, r2) ∷ (badLevel (aOf w) (bOf w), r3) �
 
 abbrev pub shapePlace : ℕ → Checks
 shapePlace w =
-    (otherKind shapeKind w, r2)
-    ∷ (badColumns offersMost (offersOf w) (kOf w) || not (eqb (unusedOf w) 0), r4)
-    ∷ designChecks (shapeIn w .design)
+    let s = shapeIn w in
+    (noShape w, r2) ∷ (badColumns offersMost (s .offers) (s .k) || not (eqb (spareOf w) 0), r4) ∷ designChecks (s .design)
 
 abbrev pub offerPlace : List ℕ → Layout → ℕ → Checks
 offerPlace ws l i = (otherKind offerKind (word ws (offerAt l i)), r2) ∷ offerChecks (codeIn ws l) (digitsIn ws l) i
@@ -90,7 +89,7 @@ bodyPlaces ws s =
     placesFrom (offerPlace ws l) 0 (s .offers) ++ (placesFrom (figurePlace ws l) 0 (figureCount s) ++ endPlace ws (l .end))
 
 unfoldable pub placeChecks : List ℕ → Checks
-unfolding badLevel badColumns designChecks bodyPlaces
+unfolding badLevel noShape shapeIn spareOf badColumns designChecks bodyPlaces
 placeChecks ws = levelPlace (word ws levelAt) ++ (shapePlace (word ws shapeAt) ++ bodyPlaces ws (shapeIn (word ws shapeAt)))
 
 unfoldable pub fileChecks : List ℕ → Checks

@@ -8,7 +8,7 @@ use trial::Shape;
 use trial::first_of;
 ghost use mathlib.Core.Path.{_≡_};
 ghost use Prim.Native.Nat.{_<_, _≤_};
-ghost use Rattle.limits.specs.Limits.{offersMost, pairsMost, figuresMost, longestFile};
+ghost use Rattle.limits.specs.Limits.{offersMost, unitsMost, figuresMost, longestFile};
 ghost use Rattle.refusals.specs.Answers.{r2, placesFrom, firstRefusal};
 ghost use Rattle.trial.specs.Designs.{unitsOf};
 ghost use mathlib.Core.List.{_∷_};
@@ -44,10 +44,10 @@ fn judge_level(w: u32) -> u32
 fn judge_shape(w: u32) -> u32
     ensures { λ r. ⌜ r ≡ firstRefusal (shapePlace w) ⌝ }
 {
-    let other = words::kind_of(w) != 2;
+    let other = words::no_shape(w);
     let shape = words::shape_of(w);
     let counts = refusals::bad_columns(OFFERS_MOST, shape.offers, shape.k);
-    let spare = words::unused_of(w) != 0;
+    let spare = words::spare_of(w) != 0;
     let design = shape.design;
     let laid = trial::design_refusal(design);
     let unused = first_of(spare, 4, laid);
@@ -126,7 +126,7 @@ fn judge_end(file: &[u8], n: usize) -> u32
 
 // of the words after the shape
 fn judge_body(file: &[u8], shape: Shape) -> u32
-    requires { ⌜ (shape .offers ≤ offersMost) × (unitsOf (shape .design) ≤ pairsMost) ⌝ }
+    requires { ⌜ (shape .offers ≤ offersMost) × (unitsOf (shape .design) ≤ unitsMost) ⌝ }
     ensures { λ r. ⌜ r ≡ firstRefusal (bodyPlaces (wordsOf (now (file .entry))) shape) ⌝ }
 {
     let l = layouts::of_shape(shape);

@@ -33,10 +33,10 @@ use Rattle.trialrun.specs.Bars.{Remaining}
 
 module _ (t : Trial) (acc : Accepted t) (X : List (List Float)) (sound : Sound (t .shape .offers) X) (tall : length X ≡ rowTotal t) where
   pub some-row : 0 < length X
-  some-row = omega (arith, tall, rowTotal-some t)
+  some-row = omega (arith, tall, rowTotal-some t acc)
 
   pub few-rows : allowance (rowTotal t) (t .level .a) (t .level .b) < length X
-  few-rows = omega (arith, tall, allowance-lt (rowTotal t) (t .level .a) (t .level .b) (rowTotal-some t) (acc .levelled .proper))
+  few-rows = omega (arith, tall, allowance-lt (rowTotal t) (t .level .a) (t .level .b) (rowTotal-some t acc) (acc .levelled .proper))
 
   pub trial-ready : trialStart t .ended ≡ false → Ready X (trialStart t)
   trial-ready on = ready-first X (rowTotal t) (t .shape .offers) (t .shape .k) (allowance (rowTotal t) (t .level .a) (t .level .b)) 0 (liveMask t) sound some-row (acc .k-some) few-rows on

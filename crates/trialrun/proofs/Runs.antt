@@ -67,14 +67,14 @@ module _ (t : Trial) (a : Accepted t) where
     shape-good : t .shape .k ≤ n → n ≤ t .shape .offers → badShape (rowTotal t) n (t .shape .k) ≡ false
     unfolding badSizes
     shape-good held narrow =
-        neither (within 1 4096 (rowTotal t) (rowTotal-some t) (omega (arith, rows-most)))
+        neither (within 1 4096 (rowTotal t) (rowTotal-some t a) (omega (arith, rows-most)))
         (neither (within 1 32 n (omega (arith, a .k-some)) (omega (arith, a .offers-most))) (neither (within 1 toleranceMost (t .shape .k) (a .k-some) (a .k-most)) (le-ltb n (t .shape .k) held)))
 
     pub rows-accepted : t .shape .k ≤ n → n ≤ t .shape .offers → tableRefusal (joined X) (rowTotal t) n (t .shape .k) (t .level .a) (t .level .b) 0 ≡ 0
     unfolding tableRefusal tableChecks badValue
     rows-accepted held narrow =
         none-first (tableChecks (joined X) (rowTotal t) n (t .shape .k) (t .level .a) (t .level .b) 0)
-        (shape-good held narrow, (a .level-good, (not-no _ (eq-eqb (length (joined X)) (rowTotal t * n) joined-is), (lt-leb (rowTotal t) 0 (rowTotal-some t), (ap not (T-true (all finite (joined X)) (joined-all finite X (sound-all n X sound))), tt)))))
+        (shape-good held narrow, (a .level-good, (not-no _ (eq-eqb (length (joined X)) (rowTotal t * n) joined-is), (lt-leb (rowTotal t) 0 (rowTotal-some t a), (ap not (T-true (all finite (joined X)) (joined-all finite X (sound-all n X sound))), tt)))))
 
   pub table-accepted : tableRefusal (tableOf t) (rowTotal t) (t .shape .offers) (t .shape .k) (t .level .a) (t .level .b) 0 ≡ 0
   unfolding tableOf
@@ -93,7 +93,7 @@ module _ (t : Trial) (table work : List Float) (s : TableSize) (q : s ≡ runSiz
   module _ (n : ℕ) (l : n ≡ allowance (s .rows) (t .level .a) (t .level .b)) (x : List Float) (y : List Float) (p : x ≡ y) where
     pub startable : CheckedTable y (rowTotal t) (t .shape .offers) (t .shape .k) → CheckedTable x (s .rows) (s .columns) (t .shape .k) × (n < s .rows) × (0 < s .rows) × (s .live < 2 ^ (s .columns)) × (s .rows ≤ length work)
     startable ready = rw (p, l, rows-are t table work s q w e z, columns-are t table work s q w e z, live-is t table work s q w e z)
-        (ready, allowance-lt (rowTotal t) (t .level .a) (t .level .b) (rowTotal-some t) (acc .levelled .proper), rowTotal-some t, live-fits t, work-room t table work s q w e z)
+        (ready, allowance-lt (rowTotal t) (t .level .a) (t .level .b) (rowTotal-some t acc) (acc .levelled .proper), rowTotal-some t acc, live-fits t, work-room t table work s q w e z)
 
     started : (X : List (List Float)) → rowsOf (rowTotal t) (t .shape .offers) y ≡ X
         → fullRun (rowsOf (s .rows) (s .columns) x) (firstState (s .rows) (s .columns) (t .shape .k) n 0 (s .live)) ≡ fullRun X (trialStart t)

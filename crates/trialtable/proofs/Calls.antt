@@ -4,36 +4,36 @@
 use Prim.Native.Nat.{ℕ, _*_, _≤_, _<_}
 use native.Mathlib.Omega.{arith}
 use native.Mathlib.Nat.{mul-le-mul}
-use mathlib.Core.Path.{_≡_, sym, ap, ap₂, _∙_}
+use mathlib.Core.Path.{_≡_, sym, ap, _∙_}
 use mathlib.Core.List.{List}
 use lib.ListN.{length}
 use lib.Ieee.{Float}
 use Rattle.refusals.specs.Answers.{Checks, firstRefusal}
+use Rattle.refusals.proofs.Answers.{none-first}
 use Rattle.refusals.specs.Buffers.{tooShort, written}
 use Rattle.refusals.proofs.Buffers.{lent-short, lent-enough}
 use Rattle.limits.specs.Limits.{figuresMost}
-use Rattle.trial.specs.Designs.{unitsOf}
+use Rattle.trial.specs.Designs.{designChecks, unitsOf}
 use Rattle.trial.specs.Exchange.{rowTotal, tableOf}
 use Rattle.trial.specs.Refusals.{trialRefusal}
 use Rattle.trial.specs.Lent.{tableCallChecks, tableCallRefusal, tableBuffer}
 use Rattle.trial.specs.declared.Trial.{Trial}
-use Rattle.trial.proofs.LaidOut.{rowCount-power}
 use Rattle.trial.proofs.Accepted.{Accepted}
 use Rattle.trial.proofs.Calls.{turned-away, passed-on}
-use Rattle.trialtable.specs.Internal.{sumsTable, Fillable}
-use Rattle.trialtable.proofs.Filled.{tableOf-sums, figures-ranged}
+use Rattle.trialtable.specs.Internal.{tableFor, Fillable}
+use Rattle.trialtable.proofs.Filled.{tableOf-is, figures-ranged}
 
--- the offers and the pairs as the code has them
-module _ (t : Trial) (offers pairs : ℕ) (o : offers ≡ t .shape .offers) (p : pairs ≡ unitsOf (t .shape .design)) where
-  pub fill-allowed : Accepted t → length (t .figures) ≡ figuresMost → (places : ℕ) → rowTotal t * t .shape .offers ≤ places → Fillable pairs offers (t .figures) places
+-- the offers as the code has them
+module _ (t : Trial) (offers : ℕ) (o : offers ≡ t .shape .offers) where
+  pub fill-allowed : Accepted t → length (t .figures) ≡ figuresMost → (places : ℕ) → rowTotal t * t .shape .offers ≤ places → Fillable (t .shape .design) offers (t .figures) places
   unfolding rowTotal
   fill-allowed acc l places h =
-      let n : t .shape .offers * unitsOf (t .shape .design) ≤ figuresMost = mul-le-mul (acc .offers-most) (acc .laid .units-most) in
-      let q = ap (λ (m : ℕ). m * t .shape .offers) (rowCount-power (t .shape .design)) in
-      rw (o, p) (record { offers-most = acc .offers-most; pairs-most = acc .laid .units-most; held = omega arith; ranged = figures-ranged t acc (omega arith); room = omega arith })
+      let d = t .shape .design in
+      let n : t .shape .offers * unitsOf d ≤ figuresMost = mul-le-mul (acc .offers-most) (acc .laid .units-most) in
+      rw o (record { offers-most = acc .offers-most; layout-good = none-first (designChecks d) (acc .layout-good); held = omega arith; ranged = figures-ranged t acc (omega arith); room = h })
 
-  pub fill-done : (buf out : List Float) → out ≡ written (sumsTable pairs offers (t .figures)) buf → out ≡ written (tableOf t) buf
-  fill-done buf out e = e ∙ ap (λ (xs : List Float). written xs buf) (ap₂ (λ (n m : ℕ). sumsTable n m (t .figures)) p o ∙ sym (tableOf-sums t))
+  pub fill-done : (buf out : List Float) → out ≡ written (tableFor (t .shape .design) offers (t .figures)) buf → out ≡ written (tableOf t) buf
+  fill-done buf out e = e ∙ ap (λ (xs : List Float). written xs buf) (ap (λ (m : ℕ). tableFor (t .shape .design) m (t .figures)) o ∙ sym (tableOf-is t))
 
 module _ (t : Trial) (buf : List Float) (r : ℕ) (e : r ≡ trialRefusal t) where
   abbrev short : Checks

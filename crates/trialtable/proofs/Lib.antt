@@ -1,5 +1,10 @@
+pub mod Arithmetic
 pub mod Places
 pub mod Subtraction
+pub mod Blocks
 pub mod Doubling
+pub mod Choosing
+pub mod Cases
+pub mod Chosen
 pub mod Filled
 pub mod Calls

@@ -11,7 +11,8 @@ use Rattle.layouts.specs.Layouts.{levelAt, shapeAt, layoutOf, offerAt, figureAt
 use Rattle.trialfile.specs.Files.{contentsIn, trialOf}
 use Rattle.layouts.specs.declared.Layout.{Layout}
 use Rattle.trialwriter.specs.Writings.{contentWords, fileWords}
-use Rattle.words.proofs.Fields.{level-again, shape-again, offer-again, difference-again, end-again}
+use Rattle.words.proofs.Fields.{level-again, offer-again, difference-again, end-again}
+use Rattle.words.proofs.Shapes.{shape-again}
 use Rattle.layouts.proofs.Layouts.{place-cases}
 use Rattle.trialfile.proofs.Passed.{right-kind, Passed, contents-read, codes-at, digits-at, figures-at}
 use Rattle.trialwriter.proofs.FileWords.{words-length, word-level, word-shape, word-offer, word-figure, word-end}

@@ -9,12 +9,13 @@ use mathlib.Core.List.{List, [], _∷_, _++_, append-nil, append-assoc}
 use lib.ListN.{length, getD, length-append}
 use lib.Seq.{sets, getD-take}
 use lib.IntN.{pos, natAbs}
-use Rattle.limits.specs.Limits.{offersMost, pairsMost, figuresMost, toleranceMost, digitsMost, differenceMost, levelMost}
+use Rattle.limits.specs.Limits.{offersMost, figuresMost, toleranceMost, digitsMost, differenceMost, levelMost}
 use Rattle.order.proofs.Lists.{tabulate-length, tabulate-same}
-use Rattle.refusals.specs.Answers.{Checks}
+use Rattle.refusals.specs.Answers.{Checks, firstRefusal}
+use Rattle.refusals.proofs.Answers.{none-first}
 use Rattle.refusals.specs.Buffers.{tooShort, written}
 use Rattle.refusals.proofs.Buffers.{lent-short, lent-enough}
-use Rattle.trial.specs.Designs.{unitsOf}
+use Rattle.trial.specs.Designs.{designChecks}
 use Rattle.trial.specs.Record.{ArrayLengths, figureCount, contents}
 use Rattle.trial.specs.Refusals.{nth, trialRefusal}
 use Rattle.trial.specs.declared.Trial.{Trial}
@@ -38,7 +39,7 @@ pub record Writable (t : Trial) (l : Layout) : Type 0 where
   pub placed : Stands (t .shape) l
   pub k-most : t .shape .k ≤ toleranceMost
   pub offers-most : t .shape .offers ≤ offersMost
-  pub units-most : unitsOf (t .shape .design) ≤ pairsMost
+  pub layout-good : firstRefusal (designChecks (t .shape .design)) ≡ 0
   pub figures-most : figureCount (t .shape) ≤ figuresMost
   pub a-most : t .level .a ≤ levelMost
   pub b-most : t .level .b ≤ levelMost
@@ -55,7 +56,7 @@ writable t l ty h e =
       placed = stands (t .shape) l e;
       k-most = acc .k-most;
       offers-most = acc .offers-most;
-      units-most = acc .laid .units-most;
+      layout-good = none-first (designChecks (t .shape .design)) (acc .layout-good);
       figures-most = many t ty h;
       a-most = omega (arith, acc .levelled .proper, acc .levelled .b-most);
       b-most = acc .levelled .b-most;

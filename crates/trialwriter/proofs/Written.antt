@@ -29,14 +29,15 @@ use Rattle.trial.specs.declared.Shape.{Shape}
 use Rattle.trial.specs.declared.Trial.{Trial}
 use Rattle.trial.proofs.Accepted.{Accepted, accepted}
 use Rattle.trial.proofs.Conditions.{offer-same}
-use Rattle.words.specs.Words.{word, kindOf, unusedOf, digitsOf, codeOf, differenceOf, countOf}
+use Rattle.words.specs.Words.{word, kindOf, noShape, spareOf, digitsOf, codeOf, differenceOf, countOf}
 use Rattle.layouts.specs.Layouts.{levelAt, shapeAt, layoutOf, offerAt, figureAt}
 use Rattle.words.specs.Words.{levelIn, shapeIn}
 use Rattle.trialfile.specs.Files.{codeIn, digitsIn, figureIn, contentsIn, trialOf, badLength, otherKind, levelPlace, shapePlace, offerPlace, figurePlace, endPlace, bodyPlaces, placeChecks, fileChecks, fileRefusal}
 use Rattle.trialwriter.specs.Writings.{contentWords, fileWords, fileOf, fileLength}
 use Rattle.layouts.specs.declared.Layout.{Layout}
 use Rattle.words.proofs.Words.{words-bytes, bytesOf-length}
-use Rattle.words.proofs.Fields.{level-kind, level-back, shape-stands, shape-back, offer-kind, offer-digits, offer-code, difference-kind, difference-back, end-kind, end-count}
+use Rattle.words.proofs.Fields.{level-kind, level-back, offer-kind, offer-digits, offer-code, difference-kind, difference-back, end-kind, end-count}
+use Rattle.words.proofs.Shapes.{shape-stands, shape-back}
 use Rattle.trialfile.proofs.Inputs.{printed}
 use Rattle.layouts.proofs.Layouts.{count-most, words-most}
 use Rattle.trialwriter.proofs.FileWords.{words-length, word-level, word-shape, word-offer, word-figure, word-end}
@@ -96,7 +97,7 @@ module _ (t : Trial) (ty : ArrayLengths t) (h : trialRefusal t ≡ 0) where
   figure-back i k = ap differenceOf (word-figure c i k) ∙ difference-back (getD (c .figures) i (pos 0)) (figure-ok i k)
 
   shape-is : shapeIn (word (contentWords c) shapeAt) ≡ s
-  shape-is = ap shapeIn (word-shape c) ∙ shape-back (s .k) (s .offers) (s .design) (acc .k-most) (acc .offers-most) (acc .laid .units-most)
+  shape-is = ap shapeIn (word-shape c) ∙ shape-back (s .k) (s .offers) (acc .k-most) (acc .offers-most) (s .design) (acc .layout-good)
 
   less : t .level .a ≤ levelMost
   less = omega (arith, acc .levelled .proper, acc .levelled .b-most)
@@ -149,10 +150,10 @@ module _ (t : Trial) (ty : ArrayLengths t) (h : trialRefusal t ≡ 0) where
   shape-passes : NoneHolds (shapePlace (word (contentWords c) shapeAt))
   shape-passes =
       let w = word (contentWords c) shapeAt in
-      let k = shape-stands (s .k) (s .offers) (s .design) (acc .k-most) (acc .offers-most) (acc .laid .units-most) in (
-        no-other 2 w (ap kindOf (word-shape c) ∙ k .0),
+      let k = shape-stands (s .k) (s .offers) (acc .k-most) (acc .offers-most) (s .design) (acc .layout-good) in (
+        ap noShape (word-shape c) ∙ k .0,
         (
-          neither (ap (λ (x : Shape). badColumns offersMost (x .offers) (x .k)) shape-is ∙ acc .counts-good) (ap not (eq-eqb (unusedOf w) 0 (ap unusedOf (word-shape c) ∙ k .1))),
+          neither (ap (λ (x : Shape). badColumns offersMost (x .offers) (x .k)) shape-is ∙ acc .counts-good) (ap not (eq-eqb (spareOf w) 0 (ap spareOf (word-shape c) ∙ k .1))),
           subst (λ (x : Shape). NoneHolds (designChecks (x .design))) (sym shape-is) (acc .layout-good),
         ),
       )

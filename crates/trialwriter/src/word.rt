@@ -3,9 +3,10 @@ use trial::Design;
 ghost use mathlib.Core.Path.{_≡_};
 ghost use Prim.Native.Nat.{_<_, _≤_};
 ghost use lib.IntN.{natAbs};
-ghost use Rattle.limits.specs.Limits.{offersMost, pairsMost, toleranceMost, digitsMost, differenceMost, levelMost, longestFile};
-ghost use Rattle.trial.specs.Designs.{unitsOf};
-ghost use Rattle.words.specs.Words.{levelWord, shapeWordOf, offerWord, bitsOf, differenceWord, endWord};
+ghost use Rattle.limits.specs.Limits.{offersMost, unitsMost, toleranceMost, digitsMost, differenceMost, levelMost, longestFile};
+ghost use Rattle.refusals.specs.Answers.{firstRefusal};
+ghost use Rattle.trial.specs.Designs.{designChecks};
+ghost use Rattle.words.specs.Words.{levelWord, pairedWord, unpairedWord, shapeWordOf, offerWord, bitsOf, differenceWord, endWord};
 
 pub(crate) fn level_word(a: usize, b: usize) -> u32
     requires { ⌜ (a ≤ levelMost) × (b ≤ levelMost) ⌝ }
@@ -14,12 +15,33 @@ pub(crate) fn level_word(a: usize, b: usize) -> u32
     268435456 + (a as u32) * 16384 + (b as u32)
 }
 
+fn paired_word(k: usize, offers: usize, pairs: usize) -> u32
+    requires { ⌜ (k ≤ toleranceMost) × (offers ≤ offersMost) × (pairs ≤ unitsMost) ⌝ }
+    ensures { λ r. ⌜ r ≡ pairedWord k offers pairs ⌝ }
+{
+    536870912 + (k as u32) * 65536 + (offers as u32) * 256 + (pairs as u32)
+}
+
+fn unpaired_word(k: usize, offers: usize, shops: usize, treated: usize) -> u32
+    requires { ⌜ (k ≤ toleranceMost) × (offers ≤ offersMost) × (shops ≤ unitsMost) × (treated ≤ unitsMost) ⌝ }
+    ensures { λ r. ⌜ r ≡ unpairedWord k offers shops treated ⌝ }
+{
+    1342177280
+        + (k as u32) * 16777216
+        + (offers as u32) * 65536
+        + (shops as u32) * 256
+        + (treated as u32)
+}
+
+// the shape, by how the trial was laid out
 pub(crate) fn shape_word(k: usize, offers: usize, d: Design) -> u32
-    requires { ⌜ (k ≤ toleranceMost) × (offers ≤ offersMost) × (unitsOf d ≤ pairsMost) ⌝ }
+    requires { ⌜ (k ≤ toleranceMost) × (offers ≤ offersMost) × (firstRefusal (designChecks d) ≡ 0) ⌝ }
     ensures { λ r. ⌜ r ≡ shapeWordOf k offers d ⌝ }
 {
-    let pairs = trial::units(d);
-    536870912 + (k as u32) * 65536 + (offers as u32) * 256 + (pairs as u32)
+    match d {
+        Design::Paired(pairs) => paired_word(k, offers, pairs),
+        Design::Unpaired(shops, treated) => unpaired_word(k, offers, shops, treated),
+    }
 }
 
 pub(crate) fn offer_word(code: u32, digits: u8) -> u32

@@ -4,25 +4,28 @@
 --   wordBytes w, bytesOf ws           the bytes of a word, of words
 --   word ws i                         the word at place i; a missing word reads as 0, whose kind no place needs
 --   kindOf w                          bits 31-28
---   levelKind .. endKind              the kinds 1, 2, 3, 4 and 15
+--   levelKind .. endKind              the kinds 1, 2 and 5 (the shapes of pairs and of shops), 3, 4 and 15
 --   aOf, bOf                          level: bits 27-14, 13-0
---   unusedOf, kOf, offersOf, pairsOf  shape: bits 27-24, 23-16, 15-8, 7-0
+--   unusedOf, kOf, offersOf, pairsOf  shape of pairs: bits 27-24, 23-16, 15-8, 7-0
+--   shopsK, shopsOffers, shopsOf, treatedOf     shape of shops without partners (document 02, §6): bits 27-24, 23-16, 15-8, 7-0
+--   noShape w                         the word is of neither kind of shape
+--   spareOf w                         bits of a shape that have to be 0: those of shops have none
 --   digitsOf, codeOf                  offer: bits 27-24, 23-0
---   levelIn, shapeIn                  the level and the shape that a word holds
+--   levelIn, shapeIn                  the level and the shape that a word holds; pairedIn, unpairedIn by its kind
 --   signed, differenceOf              difference: bits 27-0, two's complement
 --   countOf                           end: bits 27-0
 --   bitsOf d                          bits 27-0 of a difference, two's complement
 --   levelWord .. endWord              the word of each kind that holds the given values
 --   shapeWordOf k offers d            the shape word, by how the trial was laid out
 use Prim.Native.Nat.{ℕ, _+_, _-_, _*_, _/_, _%_}
-use mathlib.Core.Bool.{cond}
+use mathlib.Core.Bool.{Bool, not, cond, _&&_}
 use mathlib.Core.List.{List, [], _∷_, _++_}
 use lib.ListN.{getD}
-use lib.Dec.{T, ltb}
+use lib.Dec.{T, ltb, eqb}
 use Rattle.order.specs.Counting.{all}
 use lib.IntN.{ℤ, pos, negsuc}
 use Rattle.trial.specs.declared.Design.{Design}
-use Rattle.trial.specs.declared.Design.the-variants.{Paired}
+use Rattle.trial.specs.declared.Design.the-variants.{Paired, Unpaired}
 use Rattle.trial.specs.declared.Level.{Level}
 use Rattle.trial.specs.declared.Shape.{Shape}
 
@@ -56,8 +59,11 @@ kindOf w = w / 268435456
 abbrev pub levelKind : ℕ
 levelKind = 1
 
-abbrev pub shapeKind : ℕ
-shapeKind = 2
+abbrev pub pairedKind : ℕ
+pairedKind = 2
+
+abbrev pub unpairedKind : ℕ
+unpairedKind = 5
 
 abbrev pub offerKind : ℕ
 offerKind = 3
@@ -86,6 +92,18 @@ offersOf w = w / 256 % 256
 abbrev pub pairsOf : ℕ → ℕ
 pairsOf w = w % 256
 
+abbrev pub shopsK : ℕ → ℕ
+shopsK w = w / 16777216 % 16
+
+abbrev pub shopsOffers : ℕ → ℕ
+shopsOffers w = w / 65536 % 256
+
+abbrev pub shopsOf : ℕ → ℕ
+shopsOf w = w / 256 % 256
+
+abbrev pub treatedOf : ℕ → ℕ
+treatedOf w = w % 256
+
 abbrev pub digitsOf : ℕ → ℕ
 digitsOf w = w / 16777216 % 16
 
@@ -95,8 +113,20 @@ codeOf w = w % 16777216
 abbrev pub levelIn : ℕ → Level
 levelIn w = record { a = aOf w; b = bOf w }
 
-abbrev pub shapeIn : ℕ → Shape
-shapeIn w = record { k = kOf w; offers = offersOf w; design = Paired (pairsOf w) }
+abbrev pub pairedIn : ℕ → Shape
+pairedIn w = record { k = kOf w; offers = offersOf w; design = Paired (pairsOf w) }
+
+abbrev pub unpairedIn : ℕ → Shape
+unpairedIn w = record { k = shopsK w; offers = shopsOffers w; design = Unpaired (shopsOf w) (treatedOf w) }
+
+unfoldable pub noShape : ℕ → Bool
+noShape w = not (eqb (kindOf w) pairedKind) && not (eqb (kindOf w) unpairedKind)
+
+unfoldable pub spareOf : ℕ → ℕ
+spareOf w = cond (eqb (kindOf w) unpairedKind) 0 (unusedOf w)
+
+unfoldable pub shapeIn : ℕ → Shape
+shapeIn w = cond (eqb (kindOf w) unpairedKind) (unpairedIn w) (pairedIn w)
 
 -- a number below 2^28 as two's complement
 unfoldable pub signed : ℕ → ℤ
@@ -113,11 +143,15 @@ countOf w = w % 268435456
 abbrev pub levelWord : ℕ → ℕ → ℕ
 levelWord a b = levelKind * 268435456 + a * 16384 + b
 
-abbrev pub shapeWord : ℕ → ℕ → ℕ → ℕ
-shapeWord k offers pairs = shapeKind * 268435456 + k * 65536 + offers * 256 + pairs
+abbrev pub pairedWord : ℕ → ℕ → ℕ → ℕ
+pairedWord k offers pairs = pairedKind * 268435456 + k * 65536 + offers * 256 + pairs
+
+abbrev pub unpairedWord : ℕ → ℕ → ℕ → ℕ → ℕ
+unpairedWord k offers shops treated = unpairedKind * 268435456 + k * 16777216 + offers * 65536 + shops * 256 + treated
 
 unfoldable pub shapeWordOf : ℕ → ℕ → Design → ℕ
-shapeWordOf k offers (Paired pairs) = shapeWord k offers pairs
+shapeWordOf k offers (Paired pairs) = pairedWord k offers pairs
+shapeWordOf k offers (Unpaired shops treated) = unpairedWord k offers shops treated
 
 abbrev pub offerWord : ℕ → ℕ → ℕ
 offerWord code digits = offerKind * 268435456 + digits * 16777216 + code

@@ -40,24 +40,22 @@ returns-2 c =
 
 fill-requires : tie.Need-fill-requires
 fill-requires c κs =
-    let u = c .before in
-    let l = u .before .before .before .before in
+    let l = c .before .before .before .before in
     let e = l .before .before in
     let z = e .before .before in
     let a = z .before .before .args in
     let m = total e in
-    fill-allowed (a .t) (z .size .result .columns) (u .units .result) (told z .columns-are (e .if1 .left)) (u .units .ensures) (past e) (held (z .before .before)) (length (a .out .now)) (omega arith)
+    fill-allowed (a .t) (z .size .result .columns) (told z .columns-are (e .if1 .left)) (past e) (held (z .before .before)) (length (a .out .now)) (omega arith)
 
 returns-3 : tie.Need-returns-3
 returns-3 c =
     let f = c .before .before in
-    let u = f .before .before in
-    let l = u .before .before .before .before in
+    let l = f .before .before .before .before .before in
     let e = l .before .before in
     let z = e .before .before in
     let a = z .before .before .args in
     call-done (a .t) (a .out .now) _ (told z .refusal-is) (e .if1 .left) (z .size .result .rows * z .size .result .columns) (total e) (l .if2 .left) _
-    (fill-done (a .t) (z .size .result .columns) (u .units .result) (told z .columns-are (e .if1 .left)) (u .units .ensures) (a .out .now) _ (f .fill .ensures))
+    (fill-done (a .t) (z .size .result .columns) (told z .columns-are (e .if1 .left)) (a .out .now) _ (f .fill .ensures))
 
 pub table-spec : {M : Type 1} → statement M
 table-spec =
@@ -68,7 +66,6 @@ table-spec =
     mul-total
     returns-2
     (λ c. search needs)
-    (λ c κs. search needs)
     fill-requires
     (λ c. search needs)
     returns-3)

@@ -5,14 +5,13 @@ use native.Mathlib.Omega.{arith}
 use lib.ListN.{length}
 use borrow.Author.Needs.{needs}
 use Rattle.limits.specs.Limits.{offersMost, figuresMost}
-use Rattle.trial.specs.Designs.{unitsOf}
 use Rattle.trial.proofs.LaidOut.{count-most}
 use Rattle.trial.proofs.Aside.{maskFrom, mask-start, mask-room, slice-end, slice-length, mask-turn, mask-end}
 use Rattle.trial.proofs.live.mask.Statement.{statement}
 use Rattle.trial.proofs.live.mask.Tie as tie
 
 abbrev Inv-loop : tie.InvT-loop
-Inv-loop design figures n m₀ i₀ m i = (i ≤ i₀) × (i₀ ≤ offersMost) × (n ≡ unitsOf design) × (i₀ * n ≤ figuresMost) × (length figures ≡ figuresMost) × (m ≡ maskFrom design i₀ n figures i)
+Inv-loop design figures n m₀ i₀ m i = (i ≤ i₀) × (i₀ ≤ offersMost) × (1 ≤ n) × (i₀ * n ≤ figuresMost) × (length figures ≡ figuresMost) × (m ≡ maskFrom design i₀ n figures i)
 
 abbrev μ-loop : tie.MeasureT-loop
 μ-loop design figures n m₀ i₀ m i = i
@@ -22,7 +21,7 @@ loop-holds c =
     let b = c .before .before .before in
     let t = b .args .t in
     let figures : length (t .figures) ≡ figuresMost = search needs in
-    (omega arith, b .pre .0, c .units .ensures, count-most (t .shape) _ (b .pre .0) (b .pre .1) (c .units .ensures), figures, mask-start (t .shape .design) (t .shape .offers) _ (t .figures))
+    (omega arith, b .pre .0, omega (arith, b .pre .1, c .units .ensures), count-most (t .shape) _ (b .pre .0) (b .pre .2) (c .units .ensures), figures, mask-start (t .shape .design) (t .shape .offers) _ (t .figures))
 
 -- an offer's figures lie within the array
 inside : (c : tie.In-loop Inv-loop μ-loop) → (c .before .loop .i - 1) * c .before .before .units .result + c .before .before .units .result ≤ figuresMost
@@ -45,7 +44,7 @@ untested-requires c κs =
     let g = c .before .before in
     let l = g .before .loop in
     let t = g .before .before .before .before .before .args .t in
-    slice-length (t .shape .design) (t .shape .offers) _ (t .figures) (l .i) (g .loop-test .taken) (l .inv .0) (omega (arith, l .inv .3, l .inv .4)) ∙ l .inv .2
+    omega (arith, l .inv .2, slice-length (t .shape .design) (t .shape .offers) (g .before .before .units .result) (t .figures) (l .i) (g .loop-test .taken) (l .inv .0) (omega (arith, l .inv .3, l .inv .4)))
 
 with-first-requires : tie.Need-with-first-requires Inv-loop μ-loop
 with-first-requires c κs = let l = c .before .before .before .before .loop in mask-room _ _ _ _ (l .i) _ (l .inv .1) (l .inv .5)
@@ -58,7 +57,7 @@ loop-again c =
     (omega arith, l .inv .1, l .inv .2, l .inv .3, l .inv .4, mask-turn _ _ _ _ (l .i) _ _ _ (g .loop-test .taken) (l .inv .0) (l .inv .5) (u .untested .ensures) (c .with-first .ensures))
 
 returns : tie.Need-returns Inv-loop μ-loop
-returns c = let l = c .before .loop in mask-end (c .before .before .before .before .before .args .t) _ (l .i) _ (l .inv .2) (omega arith) (l .inv .5)
+returns c = let l = c .before .loop in mask-end (c .before .before .before .before .before .args .t) _ (l .i) _ (c .before .before .units .ensures) (omega arith) (l .inv .5)
 
 pub mask-spec : {M : Type 1} → statement M
 mask-spec =

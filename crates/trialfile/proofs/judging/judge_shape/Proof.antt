@@ -9,7 +9,7 @@ returns c =
     let f = c .before .before in
     let d = f .before in
     let b = d .before .before in
-    shape-judged _ _ _ _ _ _ _ _ _ (b .before .before .kind-of .ensures) (b .before .shape-of .ensures) (b .bad-columns .ensures) (d .before .unused-of .ensures) (d .design-refusal .ensures) (f .first-of .ensures) (c .before .first-of2 .ensures) (c .first-of3 .ensures)
+    shape-judged _ _ _ _ _ _ _ _ _ (b .before .before .no-shape .ensures) (b .before .shape-of .ensures) (b .bad-columns .ensures) (d .before .spare-of .ensures) (d .design-refusal .ensures) (f .first-of .ensures) (c .before .first-of2 .ensures) (c .first-of3 .ensures)
 
 pub judge-shape-spec : {M : Type 1} → statement M
 judge-shape-spec =

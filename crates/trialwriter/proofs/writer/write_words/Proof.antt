@@ -20,7 +20,7 @@ shape-word-requires c κs =
     let p = s .pre in
     let able = writable (s .args .t) (s .args .l) (p .0) (p .1) (p .2) in
     let at = able .placed in
-    (able .k-most, able .offers-most, able .units-most)
+    (able .k-most, able .offers-most, able .layout-good)
 
 put-word-requires-2 : tie.Need-put-word-requires-2
 put-word-requires-2 c κs =
