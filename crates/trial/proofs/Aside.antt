@@ -1,10 +1,11 @@
 -- Laws of offers that are set aside (document 02, §4 and §6).
+--   yardstick-..                      what figures are compared with, as the code finds it
 --   untested-listed                   a zero stays a zero under a change of sign, and equal figures are equal in every listing
 --   live-length, live-at              the offers that take part: offer i where it has been tested
 --   live-fits, live-columns, live-bit     the same as a mask
 --   figuresAt-length                  an offer has a figure for each pair or shop
 --   every-difference, every-shop      an offer has not been tested exactly where each of its differences in the record is 0, or each of its figures that of the first shop
---   alike-.., yardstick-.., untested-is     one offer's figures, from the j-th on, as the code tests them
+--   alike-.., untested-is             one offer's figures, from the j-th on, as the code tests them
 --   maskFrom, mask-..                 the mask of the offers from i on, as the code makes it
 --   slice-end, slice-length           the code's slice of an offer's figures: where it ends, and how long it is
 use Prim.Native.Nat.{ℕ, zero, suc, _+_, _-_, _*_, _/_, _%_, _^_, _≤_, _<_}
@@ -63,6 +64,14 @@ zeros-exchanged g [] = refl
 zeros-exchanged g (d ∷ ds) = ap₂ (λ (a b : Bool). a && b) (zero-exchanged (eqb (g % 2) 1) d) (zeros-exchanged (g / 2) ds)
 
 -- ---- by cases of the layout
+
+pub yardstick-zero : (d : Design) (xs : List ℤ) {n : ℕ} → d ≡ Paired n → pos 0 ≡ yardstick d xs
+unfolding yardstick
+yardstick-zero d xs e = ap (λ (x : Design). yardstick x xs) (sym e)
+
+pub yardstick-first : (d : Design) (xs : List ℤ) {n t : ℕ} → d ≡ Unpaired n t → mag (getD xs 0 (pos 0)) < 2 ^ 31 → toZ w32 (ofZ w32 (getD xs 0 (pos 0))) ≡ yardstick d xs
+unfolding yardstick
+yardstick-first d xs e f = toZ-ofZ (record { sfits = f }) ∙ ap (λ (x : Design). yardstick x xs) (sym e)
 
 pub untested-listed : (d : Design) (g : ℕ) (xs : List ℤ) → g < rowCount d → length xs ≡ unitsOf d → untested d (listed d g xs) ≡ untested d xs
 unfolding untested yardstick listed rowCount unitsOf
@@ -178,14 +187,6 @@ module _ (z : ℤ) (g : SFits w32 z) (xs : List ℤ) where
     pub alike-end : length xs ≤ j → alike kept (drop j xs) ≡ true
     unfolding alike
     alike-end h = all-end (λ x. sameFigure x kept) xs j (pos 0) h
-
-pub yardstick-zero : (d : Design) (xs : List ℤ) {n : ℕ} → d ≡ Paired n → pos 0 ≡ yardstick d xs
-unfolding yardstick
-yardstick-zero d xs e = ap (λ (x : Design). yardstick x xs) (sym e)
-
-pub yardstick-first : (d : Design) (xs : List ℤ) {n t : ℕ} → d ≡ Unpaired n t → mag (getD xs 0 (pos 0)) < 2 ^ 31 → toZ w32 (ofZ w32 (getD xs 0 (pos 0))) ≡ yardstick d xs
-unfolding yardstick
-yardstick-first d xs e f = toZ-ofZ (record { sfits = f }) ∙ ap (λ (x : Design). yardstick x xs) (sym e)
 
 pub untested-is : (d : Design) (xs : List ℤ) (z : ℤ) → SFits w32 z → (b : Bool) → z ≡ yardstick d xs → b ≡ alike (toZ w32 (ofZ w32 z)) xs → b ≡ untested d xs
 unfolding untested

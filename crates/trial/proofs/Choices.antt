@@ -24,7 +24,12 @@ use Rattle.order.proofs.Lists.{getD-map, tabulate-length, tabulate-getD}
 use Rattle.columns.specs.Columns.{everyColumn, size, choose}
 use Rattle.columns.proofs.Sets.{⊆-length, size-all}
 use Rattle.columns.proofs.PutBack.{choose-some, choose-member}
-use Rattle.trial.specs.Choices.{Choice, choices, choiceAt}
+use Rattle.trial.specs.Choices.{Choice, choices, choiceAt, shopsOf}
+
+-- two of three shops
+two-of-three : map (shopsOf 1) (choices 3 2) ≡ (1 ∷ 2 ∷ []) ∷ (1 ∷ 3 ∷ []) ∷ (2 ∷ 3 ∷ []) ∷ []
+unfolding choices shopsOf
+two-of-three = refl
 
 -- ---- a choice
 

@@ -1,7 +1,7 @@
--- Laws of contrasts: how large they are, and what it does to one that a neighbour is chosen in a shop's place.
+-- Laws of contrasts: how large they are.
 --   abs-times                        the magnitude of a multiple
 --   chosen-small, contrast-small     the figures of a choice add up to no more than all, and a contrast of them is a whole number up to 2^53
-use Prim.Native.Nat.{ℕ, suc, _+_, _-_, _*_, _^_, _≤_, _<_}
+use Prim.Native.Nat.{ℕ, suc, _-_, _*_, _^_, _≤_}
 use native.Mathlib.Omega.{arith}
 use native.Mathlib.Nat.{mul-le-mul}
 use mathlib.Core.Path.{_≡_, refl}
@@ -14,6 +14,11 @@ use Rattle.columns.specs.Columns.{within}
 use Rattle.trial.specs.Choices.{Choice, rest, sumOf, contrast}
 use Rattle.trial.specs.Internal.{Ranged}
 use Rattle.trial.proofs.Sums.{abs-add, abs-neg}
+
+-- one of three shops: 2 × 7 - 1 × (3 + 5)
+one-of-three : contrast 3 1 (true ∷ false ∷ false ∷ []) (pos 7 ∷ pos 3 ∷ pos 5 ∷ []) ≡ pos 6
+unfolding contrast
+one-of-three = refl
 
 pub abs-times : (m : ℕ) (z : ℤ) → natAbs (pos m *ℤ z) ≡ m * natAbs z
 abs-times m (pos n) = refl

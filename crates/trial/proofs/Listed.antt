@@ -26,6 +26,11 @@ use Rattle.trial.specs.Choices.{Choice, choiceAt, rest, sumOf, contrast,
 use Rattle.trial.specs.Designs.{sameFigure, alike}
 use Rattle.trial.proofs.Choices.{first-choice}
 
+-- shops 2 and 4 of four are named as treated
+two-named : chosenFirst (false ∷ true ∷ false ∷ true ∷ []) (pos 7 ∷ pos 3 ∷ pos 5 ∷ pos 2 ∷ []) ≡ pos 3 ∷ pos 2 ∷ pos 7 ∷ pos 5 ∷ []
+unfolding chosenFirst
+two-named = refl
+
 -- ---- two lists merged by a choice
 
 -- the places of c take the members of a in order, and the other places those of b

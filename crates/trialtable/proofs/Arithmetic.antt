@@ -109,13 +109,13 @@ module _ (n t : ℕ) (hn : n ≤ unitsMost) (ht : t ≤ n) (a b : ℤ) (ha : nat
   b-kept : toZ w64 (ofZ w64 b) ≡ b
   b-kept = kept w64 b (omega (arith, b-small))
 
-  pub chosen-fits : (n - t ≤ unitsMost) × (natAbs (toZ w64 (ofZ w64 a)) ≤ 2 ^ 40)
-  chosen-fits = (omega arith, rw a-kept (omega (arith, a-small)))
+  pub chosen-fits : natAbs (toZ w64 (ofZ w64 a)) ≤ 2 ^ 40
+  chosen-fits = rw a-kept (omega (arith, a-small))
 
-  pub others-fit : (t ≤ unitsMost) × (natAbs (toZ w64 (ofZ w64 b)) ≤ 2 ^ 40)
-  others-fit = (omega arith, rw b-kept (omega (arith, b-small)))
+  pub others-fit : natAbs (toZ w64 (ofZ w64 b)) ≤ 2 ^ 40
+  others-fit = rw b-kept (omega (arith, b-small))
 
-  module _ (u v : ℤ) (eu : u ≡ pos (n - t) *ℤ toZ w64 (ofZ w64 a)) (ev : v ≡ pos t *ℤ toZ w64 (ofZ w64 b)) (hu : natAbs u ≤ 10 * natAbs (toZ w64 (ofZ w64 a))) (hv : natAbs v ≤ 10 * natAbs (toZ w64 (ofZ w64 b))) where
+  module _ (u v : ℤ) (hu : natAbs u ≤ 10 * natAbs (toZ w64 (ofZ w64 a))) (hv : natAbs v ≤ 10 * natAbs (toZ w64 (ofZ w64 b))) where
     u-small : natAbs u ≤ 214748364800
     u-small = omega (arith, ap natAbs a-kept, a-small)
 
@@ -131,7 +131,7 @@ module _ (n t : ℕ) (hn : n ≤ unitsMost) (ht : t ≤ n) (a b : ℤ) (ha : nat
     pub both-fit : (natAbs (toZ w64 (ofZ w64 u)) ≤ 2 ^ 50) × (natAbs (toZ w64 (ofZ w64 v)) ≤ 2 ^ 50)
     both-fit = (rw u-kept (omega (arith, u-small)), rw v-kept (omega (arith, v-small)))
 
-    module _ (w : ℤ) (ew : w ≡ toZ w64 (ofZ w64 u) -ℤ toZ w64 (ofZ w64 v)) (hw : natAbs w ≤ natAbs (toZ w64 (ofZ w64 u)) + natAbs (toZ w64 (ofZ w64 v))) where
+    module _ (w : ℤ) (hw : natAbs w ≤ natAbs (toZ w64 (ofZ w64 u)) + natAbs (toZ w64 (ofZ w64 v))) where
       w-small : natAbs w ≤ 429496729600
       w-small = omega (arith, ap natAbs u-kept, ap natAbs v-kept, u-small, v-small)
 
@@ -141,8 +141,9 @@ module _ (n t : ℕ) (hn : n ≤ unitsMost) (ht : t ≤ n) (a b : ℤ) (ha : nat
       pub contrast-fits : natAbs (toZ w64 (ofZ w64 w)) ≤ 2 ^ 53
       contrast-fits = rw w-kept (omega (arith, w-small))
 
-      pub contrast-is : toZ w64 (ofZ w64 w) ≡ pos (n - t) *ℤ a -ℤ pos t *ℤ b
-      contrast-is = w-kept ∙ ew ∙ ap₂ _-ℤ_ (u-kept ∙ eu ∙ ap (λ (z : ℤ). pos (n - t) *ℤ z) a-kept) (v-kept ∙ ev ∙ ap (λ (z : ℤ). pos t *ℤ z) b-kept)
+      pub contrast-is : u ≡ pos (n - t) *ℤ toZ w64 (ofZ w64 a) → v ≡ pos t *ℤ toZ w64 (ofZ w64 b) → w ≡ toZ w64 (ofZ w64 u) -ℤ toZ w64 (ofZ w64 v)
+          → toZ w64 (ofZ w64 w) ≡ pos (n - t) *ℤ a -ℤ pos t *ℤ b
+      contrast-is eu ev ew = w-kept ∙ ew ∙ ap₂ _-ℤ_ (u-kept ∙ eu ∙ ap (λ (z : ℤ). pos (n - t) *ℤ z) a-kept) (v-kept ∙ ev ∙ ap (λ (z : ℤ). pos t *ℤ z) b-kept)
 
 -- so many times a figure less the next one
 module _ (n : ℕ) (hn : n ≤ unitsMost) (x y : ℤ) (fx : SFits w32 x) (fy : SFits w32 y) where
@@ -168,15 +169,15 @@ module _ (n : ℕ) (hn : n ≤ unitsMost) (x y : ℤ) (fx : SFits w32 x) (fy : S
     pub difference-fits : natAbs (toZ w64 (ofZ w64 u)) ≤ 2 ^ 40
     difference-fits = rw difference-kept (omega (arith, difference-small))
 
-    module _ (w : ℤ) (ew : w ≡ pos n *ℤ toZ w64 (ofZ w64 u)) (hw : natAbs w ≤ 10 * natAbs (toZ w64 (ofZ w64 u))) where
+    module _ (w : ℤ) (hw : natAbs w ≤ 10 * natAbs (toZ w64 (ofZ w64 u))) where
       step-kept : toZ w64 (ofZ w64 w) ≡ w
       step-kept = kept w64 w (omega (arith, ap natAbs difference-kept, difference-small))
 
       pub step-fits : natAbs (toZ w64 (ofZ w64 w)) ≤ 2 ^ 53
       step-fits = rw step-kept (omega (arith, ap natAbs difference-kept, difference-small))
 
-      pub step-is : toZ w64 (ofZ w64 w) ≡ pos n *ℤ (x -ℤ y)
-      step-is = step-kept ∙ ew ∙ ap (λ (z : ℤ). pos n *ℤ z) (difference-kept ∙ difference)
+      pub step-is : w ≡ pos n *ℤ toZ w64 (ofZ w64 u) → toZ w64 (ofZ w64 w) ≡ pos n *ℤ (x -ℤ y)
+      step-is ew = step-kept ∙ ew ∙ ap (λ (z : ℤ). pos n *ℤ z) (difference-kept ∙ difference)
 
 -- ---- a sum, figure by figure
 

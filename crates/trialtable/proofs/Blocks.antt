@@ -15,14 +15,14 @@ use mathlib.Core.Path.{_≡_, refl, sym, ap, _∙_}
 use mathlib.Core.List.{List}
 use lib.ListN.{length, getD, take, drop, set, length-drop, length-set}
 use lib.Seq.{length-take-le, getD-take, getD-drop, getD-set-other, getD-set-same}
-use lib.IntN.{ℤ, pos, natAbs, negℤ, _+ℤ_, _-ℤ_}
+use lib.IntN.{ℤ, pos, natAbs, negℤ, _-ℤ_}
 use lib.Ieee.{Float, nan, binary64, ofInt, sub}
 use borrow.Author.Count.{below-more}
 use borrow.Author.Needs.{read-below}
 use Rattle.limits.specs.Limits.{trialRowsMost}
 use Rattle.order.proofs.Lists.{part-rows}
 use Rattle.refusals.specs.Buffers.{written}
-use Rattle.refusals.proofs.Answers.{NoneHolds, none-holds}
+use Rattle.refusals.proofs.Answers.{none-holds}
 use Rattle.trial.specs.Designs.{designChecks, unitsOf, rowCount, entryOf}
 use Rattle.trial.specs.Internal.{Ranged}
 use Rattle.trial.specs.declared.Design.{Design}

@@ -4,7 +4,7 @@ use trial::Level;
 use trial::Shape;
 ghost use mathlib.Core.Path.{_≡_};
 ghost use Prim.Native.Nat.{_<_};
-ghost use Rattle.words.specs.Words.{wordsOf, word, kindOf, levelIn, noShape, pairedIn, unpairedIn, shapeIn, spareOf, digitsOf, codeOf, differenceOf, countOf};
+ghost use Rattle.words.specs.Words.{wordsOf, word, kindOf, levelIn, noShape, shapeIn, spareOf, digitsOf, codeOf, differenceOf, countOf};
 
 // a byte as a u32
 pub fn wide(x: u8) -> u32
@@ -56,36 +56,22 @@ pub fn no_shape(w: u32) -> bool
     kind != 5
 }
 
-// shape of pairs: bits 23-16, 15-8 and 7-0
-fn paired_of(w: u32) -> Shape
-    ensures { λ r. ⌜ r ≡ pairedIn w ⌝ }
+// shape: of shops bits 27-24, 23-16, 15-8 and 7-0, of pairs bits 23-16, 15-8 and 7-0
+pub fn shape_of(w: u32) -> Shape
+    ensures { λ r. ⌜ r ≡ shapeIn w ⌝ }
 {
+    if kind_of(w) == 5 {
+        return Shape {
+            k: (w / 16777216 % 16) as usize,
+            offers: (w / 65536 % 256) as usize,
+            design: Design::Unpaired((w / 256 % 256) as usize, (w % 256) as usize),
+        };
+    }
     Shape {
         k: (w / 65536 % 256) as usize,
         offers: (w / 256 % 256) as usize,
         design: Design::Paired((w % 256) as usize),
     }
-}
-
-// shape of shops: bits 27-24, 23-16, 15-8 and 7-0
-fn unpaired_of(w: u32) -> Shape
-    ensures { λ r. ⌜ r ≡ unpairedIn w ⌝ }
-{
-    Shape {
-        k: (w / 16777216 % 16) as usize,
-        offers: (w / 65536 % 256) as usize,
-        design: Design::Unpaired((w / 256 % 256) as usize, (w % 256) as usize),
-    }
-}
-
-// the shape, by its kind
-pub fn shape_of(w: u32) -> Shape
-    ensures { λ r. ⌜ r ≡ shapeIn w ⌝ }
-{
-    if kind_of(w) == 5 {
-        return unpaired_of(w);
-    }
-    paired_of(w)
 }
 
 // shape: bits 27-24, where they have to be 0

@@ -1,5 +1,4 @@
 -- `design_of`: by the kind.
-use borrow.Author.Needs.{needs}
 use Rattle.benchcalls.proofs.Layouts.{of-pairs, of-shops}
 use Rattle.benchcalls.proofs.design_of.Statement.{statement}
 use Rattle.benchcalls.proofs.design_of.Tie as tie

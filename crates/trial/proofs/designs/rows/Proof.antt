@@ -1,5 +1,4 @@
 -- `trial::designs::rows` meets its contract.
-use native.Mathlib.Omega.{arith}
 use borrow.Author.Needs.{needs}
 use Rattle.trial.proofs.LaidOut.{rows-shift, rows-chosen}
 use Rattle.trial.proofs.designs.rows.Statement.{statement}

@@ -1,5 +1,5 @@
 -- `trial::live::mask` meets its contract. The loop's invariant: m is the mask of the offers from i on.
-use mathlib.Core.Path.{_≡_, _∙_}
+use mathlib.Core.Path.{_≡_}
 use Prim.Native.Nat.{_+_, _-_, _*_, _≤_}
 use native.Mathlib.Omega.{arith}
 use lib.ListN.{length}

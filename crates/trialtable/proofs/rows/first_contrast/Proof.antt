@@ -10,17 +10,24 @@ use Rattle.trialtable.proofs.rows.first_contrast.Statement.{statement}
 use Rattle.trialtable.proofs.rows.first_contrast.Tie as tie
 
 times-requires : tie.Need-times-requires
-times-requires c κs = let s = c .before .before in let a = s .args in chosen-fits (a .shops) (a .treated) (s .pre .1) (s .pre .2) (c .before .sum .result) (c .sum2 .result) (c .before .sum .ensures .1) (c .sum2 .ensures .1)
+times-requires c κs =
+    let s = c .before .before in
+    let a = s .args in
+    (omega (arith, s .pre), chosen-fits (a .shops) (a .treated) (s .pre .1) (s .pre .2) (c .before .sum .result) (c .sum2 .result) (c .before .sum .ensures .1) (c .sum2 .ensures .1))
 
 times-requires-2 : tie.Need-times-requires-2
-times-requires-2 c κs = let d = c .before in let s = d .before .before in let a = s .args in others-fit (a .shops) (a .treated) (s .pre .1) (s .pre .2) (d .before .sum .result) (d .sum2 .result) (d .before .sum .ensures .1) (d .sum2 .ensures .1)
+times-requires-2 c κs =
+    let d = c .before in
+    let s = d .before .before in
+    let a = s .args in
+    (omega (arith, s .pre), others-fit (a .shops) (a .treated) (s .pre .1) (s .pre .2) (d .before .sum .result) (d .sum2 .result) (d .before .sum .ensures .1) (d .sum2 .ensures .1))
 
 minus-requires : tie.Need-minus-requires
 minus-requires c κs =
     let d = c .before .before in
     let s = d .before .before in
     let a = s .args in
-    both-fit (a .shops) (a .treated) (s .pre .1) (s .pre .2) (d .before .sum .result) (d .sum2 .result) (d .before .sum .ensures .1) (d .sum2 .ensures .1) (c .before .times .result) (c .times2 .result) (c .before .times .ensures .0) (c .times2 .ensures .0) (c .before .times .ensures .1) (c .times2 .ensures .1)
+    both-fit (a .shops) (a .treated) (s .pre .1) (s .pre .2) (d .before .sum .result) (d .sum2 .result) (d .before .sum .ensures .1) (d .sum2 .ensures .1) (c .before .times .result) (c .times2 .result) (c .before .times .ensures .1) (c .times2 .ensures .1)
 
 whole-requires : tie.Need-whole-requires
 whole-requires c κs =
@@ -28,8 +35,8 @@ whole-requires c κs =
     let d = e .before .before in
     let s = d .before .before in
     let a = s .args in
-    contrast-fits (a .shops) (a .treated) (s .pre .1) (s .pre .2) (d .before .sum .result) (d .sum2 .result) (d .before .sum .ensures .1) (d .sum2 .ensures .1) (e .before .times .result) (e .times2 .result) (e .before .times .ensures .0) (e .times2 .ensures .0) (e .before .times .ensures .1) (e .times2 .ensures .1)
-    (c .minus .result) (c .minus .ensures .0) (c .minus .ensures .1)
+    contrast-fits (a .shops) (a .treated) (s .pre .1) (s .pre .2) (d .before .sum .result) (d .sum2 .result) (d .before .sum .ensures .1) (d .sum2 .ensures .1) (e .before .times .result) (e .times2 .result) (e .before .times .ensures .1) (e .times2 .ensures .1)
+    (c .minus .result) (c .minus .ensures .1)
 
 returns : tie.Need-returns
 returns c =
@@ -39,8 +46,8 @@ returns c =
     let s = d .before .before in
     let a = s .args in
     c .whole .ensures
-    ∙ ap (ofInt binary64) (contrast-is (a .shops) (a .treated) (s .pre .1) (s .pre .2) (d .before .sum .result) (d .sum2 .result) (d .before .sum .ensures .1) (d .sum2 .ensures .1) (e .before .times .result) (e .times2 .result) (e .before .times .ensures .0) (e .times2 .ensures .0) (e .before .times .ensures .1) (e .times2 .ensures .1)
-    (m .minus .result) (m .minus .ensures .0) (m .minus .ensures .1)
+    ∙ ap (ofInt binary64) (contrast-is (a .shops) (a .treated) (s .pre .1) (s .pre .2) (d .before .sum .result) (d .sum2 .result) (d .before .sum .ensures .1) (d .sum2 .ensures .1) (e .before .times .result) (e .times2 .result) (e .before .times .ensures .1) (e .times2 .ensures .1)
+    (m .minus .result) (m .minus .ensures .1) (e .before .times .ensures .0) (e .times2 .ensures .0) (m .minus .ensures .0)
     ∙ ap₂ (λ (x y : ℤ). pos (a .shops - a .treated) *ℤ x -ℤ pos (a .treated) *ℤ y) (d .before .sum .ensures .0) (d .sum2 .ensures .0))
 
 pub first-contrast-spec : {M : Type 1} → statement M
