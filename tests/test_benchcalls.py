@@ -14,7 +14,7 @@ from cases import cases_of, every_case_of
 from commands import rt, run
 from expected import MARK
 from frames import shape_numbers
-from reference import ccall, report, table, trialfile
+from reference import ccall, report, table, trial, trialfile
 from reference.refusals import Refused
 from reference.trial import FIGURE_PLACES
 
@@ -45,6 +45,12 @@ def marked(kind, places: int):
 
 def sizes(*numbers):
     return [c_size_t(number) for number in numbers]
+
+
+def numbers_of(record):
+    """A trial record as arrays."""
+    return ((c_size_t * 7)(*shape_numbers(record)), (c_uint32 * 16)(*record.codes),
+            (c_uint8 * 16)(*record.digits), (c_int32 * FIGURE_PLACES)(*record.figures))
 
 
 def guarded(values):
@@ -80,15 +86,23 @@ class Calls(unittest.TestCase):
     def test_writing(self):
         refused = set()
         for case in cases_of("record"):
-            t, out, written = case.trial, marked(c_uint8, case.file_room), marked(c_size_t, 1)
-            found = library.bench_write(
-                (c_size_t * 7)(*shape_numbers(t)), (c_uint32 * 16)(*t.codes),
-                (c_uint8 * 16)(*t.digits), (c_int32 * FIGURE_PLACES)(*t.figures), out,
-                *sizes(case.file_room), written)
+            out, written = marked(c_uint8, case.file_room), marked(c_size_t, 1)
+            found = library.bench_write(*numbers_of(case.trial), out, *sizes(case.file_room),
+                                        written)
             buffer = bytearray([MARK]) * case.file_room
-            answer = trialfile.write(t, buffer)
+            answer = trialfile.write(case.trial, buffer)
             self.check(case.name, found, answer, ((out, lambda _: buffer),
                                                   (written, lambda file: [len(file)])))
+            refused.add(found)
+        self.assertEqual(refused, {0, 3, 4, 5, 6, 7, 12, 15})
+
+    def test_tables_of_trials(self):
+        refused = set()
+        for case in cases_of("record"):
+            out, buffer = marked(c_double, case.table_room), [float(MARK)] * case.table_room
+            found = library.bench_trial_table(*numbers_of(case.trial), out, *sizes(case.table_room))
+            answer = trial.table_of(case.trial, buffer)
+            self.check(case.name, found, answer, ((out, lambda _: buffer),))
             refused.add(found)
         self.assertEqual(refused, {0, 3, 4, 5, 6, 7, 12, 15})
 

@@ -2,7 +2,7 @@
 --   taking f xs i ys₀            the array once i values are taken
 --   take-start, take-turn, take-end     before the first, one more, and after the last
 use Prim.Native.Nat.{ℕ, _+_, _≤_, _<_}
-use mathlib.Core.Path.{_≡_, refl, sym, ap, _∙_}
+use mathlib.Core.Path.{_≡_, sym, ap, _∙_}
 use mathlib.Core.List.{List, _++_, map, append-nil}
 use lib.ListN.{length, getD, drop, set, length-map}
 use lib.Seq.{drop-length}

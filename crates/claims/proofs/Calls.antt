@@ -14,7 +14,7 @@ use lib.IntN.{pos}
 use lib.Ieee.{Float, nan}
 use Rattle.order.specs.Lists.{rowsOf}
 use Rattle.refusals.specs.Answers.{r1, r2, r3, r4, r9, r10, r11, r12, r13, r14, r15, placesFrom, answer}
-use Rattle.limits.specs.Limits.{offersMost, pairsMost, shopsMost}
+use Rattle.limits.specs.Limits.{offersMost, pairsMost}
 use Rattle.refusals.specs.Limits.{outside, badColumns, badLevel}
 use Rattle.refusals.specs.Buffers.{tooShort, written, cleared}
 use Rattle.refusals.proofs.Answers.{answered, answer-map}
@@ -32,7 +32,7 @@ use Rattle.balance.specs.Balance.{balancedTable}
 use Rattle.tablebalance.specs.Answers.{badCounts, balanceChecks, balanceRefusal, balanceBuffer, balancedRun, balancedChecks, balancedRefusal, balancedAnswer}
 use Rattle.verdicts.specs.Verdicts.{rejectedCount}
 use Rattle.trial.specs.Exchange.{rowTotal, tableOf}
-use Rattle.trial.specs.Designs.{designChecks}
+use Rattle.trial.specs.Designs.{badShops, designChecks}
 use Rattle.trial.specs.Record.{figureCount, settingOf, figuresOf}
 use Rattle.trial.specs.Refusals.{headingChecks, offerChecks, figureChecks, nth, contentChecks, trialChecks}
 use Rattle.trial.specs.declared.Design.the-variants.{Paired, Unpaired}
@@ -78,7 +78,7 @@ pub shape-order : (w : ℕ) → shapePlace w ≡ (noShape w, r2) ∷ (badColumns
 shape-order w = refl
 
 pub layout-order : (pairs shops treated : ℕ)
-    → (designChecks (Paired pairs) ≡ (outside 1 pairsMost pairs, r4) ∷ []) × (designChecks (Unpaired shops treated) ≡ (outside 2 shopsMost shops || outside 1 (shops - 1) treated, r15) ∷ [])
+    → (designChecks (Paired pairs) ≡ (outside 1 pairsMost pairs, r4) ∷ []) × (designChecks (Unpaired shops treated) ≡ (badShops shops treated, r15) ∷ [])
 unfolding designChecks
 layout-order pairs shops treated = (refl, refl)
 

@@ -419,7 +419,7 @@ balanced-examples = (rank-examples.all-examples, balance-examples.all-examples)
 
 -- ==== Offers that never sold (document 02, §4) ====
 
--- in a paired trial an offer (from 0) has not been tested exactly where its difference is 0 in every pair, as the record holds them, offer by offer
+-- in an accepted paired trial an offer (from 0) has not been tested exactly where its difference is 0 in every pair, as the record holds them, offer by offer
 pub not-tested : (t : Trial) → ArrayLengths t → trialRefusal t ≡ 0 → (i : ℕ) → i < t .shape .offers → (pairs : ℕ) → t .shape .design ≡ Paired pairs
     → T (untested (t .shape .design) (figuresAt t i)) ↔ ((j : ℕ) → j < pairs → getD (t .figures) (i * pairs + j) (pos 0) ≡ pos 0)
 not-tested t sized ok = asides-of.every-difference t sized (trial-accepted.accepted t ok)
@@ -565,11 +565,12 @@ bar-examples = all-bars
 
 -- ==== Shops without partners (document 02, §6) ====
 
--- the shape word of kind 5: k, offers, shops and treated shops in bits 27-24, 23-16, 15-8 and 7-0; it is the word of no trial of pairs, since two trials are the same only if their
--- kinds are. Both round trips (`write-read`, `read-write`) hold for both kinds
+-- the shape word of kind 5: k, offers, shops and treated shops in bits 27-24, 23-16, 15-8 and 7-0. Both round trips (`write-read`, `read-write`)
+-- hold for both kinds
 pub shops-word : (w : ℕ) → w / 268435456 ≡ 5 → shapeIn w ≡ record { k = w / 16777216 % 16; offers = w / 65536 % 256; design = Unpaired (w / 256 % 256) (w % 256) }
 shops-word w h = sym (in-shops w (w / 268435456) refl h)
 
+-- two trials are the same only if their kinds are
 pub same-kind : (t u : Trial) → Same t u → t .shape .design ≡ u .shape .design
 same-kind t u same = ap (λ (c : Contents). c .setting .shape .design) same
 
@@ -606,7 +607,7 @@ pub shops-entry : (shops treated g : ℕ) (xs : List ℤ) → let c = choiceAt s
 unfolding entryOf contrast
 shops-entry shops treated g xs = refl
 
--- an offer is set aside exactly where its figures are equal in all shops, as the record holds them
+-- in an accepted trial of shops an offer has not been tested exactly where its figures are equal in all of them, as the record holds them
 pub shops-aside : (t : Trial) → ArrayLengths t → trialRefusal t ≡ 0 → (i : ℕ) → i < t .shape .offers → (shops treated : ℕ) → t .shape .design ≡ Unpaired shops treated
     → T (untested (t .shape .design) (figuresAt t i)) ↔ ((j : ℕ) → j < shops → getD (t .figures) (i * shops + j) (pos 0) ≡ getD (t .figures) (i * shops) (pos 0))
 shops-aside t sized ok = asides-of.every-shop t sized (trial-accepted.accepted t ok)

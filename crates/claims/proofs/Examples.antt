@@ -7,6 +7,8 @@
 --   front-report         the same with that offer in front: who set the bar is told by its code (§5)
 --   cancelled-report     of two offers with k 2: the differences of 0042 cancel, and it is not set aside; but fewer than k offers remain, so no step is run
 --   zeros-report         of two offers of zeros: none remains
+--   shops-report, shops-balanced-report         of 4 shops, 2 of them treated
+--   two-shops-report, ten-shops-report          of the fewest shops; of 10 with 9 treated
 use mathlib.Core.Path.{_≡_, refl}
 use lib.Ieee.{lt, le, toSigned}
 use Rattle.runs.specs.FullRuns.{acceptedRun}

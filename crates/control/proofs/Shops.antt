@@ -1,8 +1,7 @@
 -- Demand 3 in the words of document 02, §6: over all C choices named as treated, idle figures staying with their shops, at most floor(C × a/b) runs reject k or more
 -- idle offers.
 --   rows-chosen                              a trial of shops has a row for each choice
---   named                                    run g lists the figures of idle offers with the shops of choice g first
---   shops-answered, shops-balanced-answered  the theorem, plain and balanced
+--   shops-answered, shops-balanced-answered  the theorem, plain and balanced; its hypothesis `named`: run g lists the shops of choice g first
 use Prim.Native.Nat.{ℕ, _*_, _≤_, _<_}
 use native.Mathlib.Omega.{arith}
 use mathlib.Core.Path.{_≡_, sym, ap, _∙_, subst}

@@ -3,7 +3,7 @@
 --   unitsMost                      the most figures of an offer: of shops without partners
 --   toleranceMost                  the largest k
 --   digitsMost                     the most printed digits of a code
---   differenceMost                 the largest difference, of either sign
+--   differenceMost                 the largest difference of a pair, or figure of a shop, of either sign
 --   levelMost                      the largest b of a level a/b
 --   figuresMost                    the figures of the largest trial
 --   trialRowsMost, trialTableMost  the rows and the places of a trial's largest table

@@ -1,6 +1,7 @@
 -- Laws of the choices of shops (document 02, §6).
 --   choice-length, choice-size    the choice of a row is one of all shops, and has as many as are treated
 --   binomial n t                  how many choices of t of n shops there are: choices-length
+--   choices-more                  those with the first shop, and those without it
 --   at-number                     what the first m numbers pass, each of them passes
 --   choices-some, choices-none, choices-most    there is one where t ≤ n; up to 10 shops there are at most 252
 --   choice-with, later-row        the first rows have the first shop, and the later ones have not

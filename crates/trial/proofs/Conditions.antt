@@ -1,11 +1,12 @@
 -- Laws by which the checks of a record are proved.
 --   digits-..                        the tests of 5, one after the other
 --   earlier-..                       one more number, the last first (6)
---   offer-judged, offer-beyond, figure-judged     the conditions of one place, as the code tests them
+--   offer-judged, offer-beyond       the conditions of one place, as the code tests them
+--   figure-before                    one more figure, the last first (7)
 --   offer-same                       numbers and digits that agree are judged alike
 --   heading-..                       4, what the layout adds, and 3
 --   refusal-..                       each answer is the first condition of the record's list that holds
-use Prim.Native.Nat.{ℕ, zero, suc, _-_, _^_, _≤_, _<_}
+use Prim.Native.Nat.{ℕ, zero, suc, _+_, _-_, _^_, _≤_, _<_}
 use native.Mathlib.Omega.{arith}
 use mathlib.Core.Path.{_≡_, refl, sym, ap, ap₂, _∙_, subst}
 use mathlib.Core.Bool.{Bool, true, false, cond, _||_}
@@ -24,7 +25,7 @@ use Rattle.order.proofs.Booleans.{or-holds, or-passes, holds, passes}
 use Rattle.refusals.specs.Answers.{r3, r5, r6, r7, Checks, placesFrom, firstRefusal}
 use Rattle.refusals.specs.Limits.{outside, badColumns, badLevel}
 use Rattle.refusals.proofs.Answers.{none-holds, none-append, judged, judged-last, first-decides, first-passes}
-use Rattle.refusals.proofs.Places.{places-same}
+use Rattle.refusals.proofs.Places.{placesLeft, place-decides, place-passes, places-same}
 use Rattle.refusals.proofs.Limits.{inside, fitting}
 use Rattle.trial.specs.Designs.{designChecks, unitsOf}
 use Rattle.trial.specs.Record.{figureCount, settingOf, figuresOf}
@@ -124,9 +125,16 @@ module _ (x d : ℤ) (e : x ≡ d) where
   difference-high h = ap (ltZ (pos differenceMost)) e ∙ bad-high d (ap (λ (z : ℤ). ltZ z (negsuc 134217726)) (sym e) ∙ h)
 
 -- one figure, as the code reads it from its bits
-pub figure-judged : (xs : List ℤ) (i : ℕ) (b : Bool) → mag (getD xs i (pos 0)) < 2 ^ 31 → b ≡ badDifference (toZ w32 (ofZ w32 (getD xs i (pos 0)))) → (r : ℕ) → r ≡ cond b 7 0
+figure-judged : (xs : List ℤ) (i : ℕ) (b : Bool) → mag (getD xs i (pos 0)) < 2 ^ 31 → b ≡ badDifference (toZ w32 (ofZ w32 (getD xs i (pos 0)))) → (r : ℕ) → r ≡ cond b 7 0
     → r ≡ firstRefusal (figureChecks (nth xs (pos 0)) i)
 figure-judged xs i b fits e r f = judged-last b _ r7 r (e ∙ ap badDifference (toZ-ofZ (record { sfits = fits }))) f
+
+-- a figure before those that are judged already
+pub figure-before : (xs : List ℤ) (n i j : ℕ) (b : Bool) → i < n → i + 1 ≡ j → mag (getD xs i (pos 0)) < 2 ^ 31 → b ≡ badDifference (toZ w32 (ofZ w32 (getD xs i (pos 0)))) → (r s : ℕ)
+    → r ≡ firstRefusal (placesLeft (figureChecks (nth xs (pos 0))) n j) → s ≡ cond b 7 r → s ≡ firstRefusal (placesLeft (figureChecks (nth xs (pos 0))) n i)
+figure-before xs n i j true h k fits e r s p q = q ∙ sym (place-decides (figureChecks (nth xs (pos 0))) n i h 7 (figure-judged xs i true fits e 7 refl) (λ z. absurd (omega (arith, z))))
+figure-before xs n i j false h k fits e r s p q =
+    q ∙ p ∙ ap (λ (m : ℕ). firstRefusal (placesLeft (figureChecks (nth xs (pos 0))) n m)) (sym k) ∙ sym (place-passes (figureChecks (nth xs (pos 0))) n i h 0 (figure-judged xs i false fits e 0 refl) refl)
 
 -- ---- the checks of a record, in order
 

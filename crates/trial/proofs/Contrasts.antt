@@ -1,6 +1,6 @@
 -- Laws of contrasts: how large they are.
 --   abs-times                        the magnitude of a multiple
---   chosen-small, contrast-small     the figures of a choice add up to no more than all, and a contrast of them is a whole number up to 2^53
+--   contrast-small                   a contrast is a whole number up to 2^53
 use Prim.Native.Nat.{ℕ, suc, _-_, _*_, _^_, _≤_}
 use native.Mathlib.Omega.{arith}
 use native.Mathlib.Nat.{mul-le-mul}
@@ -24,7 +24,8 @@ pub abs-times : (m : ℕ) (z : ℤ) → natAbs (pos m *ℤ z) ≡ m * natAbs z
 abs-times m (pos n) = refl
 abs-times m (negsuc n) = abs-neg (pos (m * suc n))
 
-pub chosen-small : (c : Choice) (xs : List ℤ) → Ranged (length xs) xs → natAbs (sumOf (within c xs)) ≤ length xs * differenceMost
+-- the figures of a choice add up to no more than all
+chosen-small : (c : Choice) (xs : List ℤ) → Ranged (length xs) xs → natAbs (sumOf (within c xs)) ≤ length xs * differenceMost
 unfolding sumOf within
 chosen-small [] xs h = omega arith
 chosen-small (b ∷ c) [] h = omega arith

@@ -1,4 +1,5 @@
 -- Laws of how a trial was laid out, by its cases: of this crate only Aside knows them too.
+--   shops-inside                     the counts of an accepted layout of shops
 --   LaidOut, laid-out                what an accepted layout is known to be
 --   units-pairs, units-shops         the figures of an offer
 --   rows-shift, rows-chosen          M as a shift, and as the number of choices
@@ -10,7 +11,7 @@ use Prim.Native.Nat.{ℕ, _-_, _*_, _%_, _^_, _≤_, _<_}
 use native.Mathlib.Omega.{arith}
 use native.Mathlib.Nat.{one-mul, mul-le-mul}
 use mathlib.Core.Path.{_≡_, sym, ap, _∙_}
-use mathlib.Core.Bool.{Bool, true, cond, _||_}
+use mathlib.Core.Bool.{Bool, true, cond}
 use mathlib.Core.List.{List, [], _∷_}
 use lib.ListN.{length, getD}
 use lib.Dec.{T, eqb, eqb→eq}
@@ -25,7 +26,7 @@ use Rattle.refusals.specs.Limits.{outside}
 use Rattle.refusals.proofs.Answers.{NoneHolds, none-holds, judged-last}
 use Rattle.refusals.proofs.Limits.{or-none, inside}
 use Rattle.trial.specs.Choices.{choices, choiceAt}
-use Rattle.trial.specs.Designs.{designChecks, unitsOf, rowCount, entryOf}
+use Rattle.trial.specs.Designs.{badShops, designChecks, unitsOf, rowCount, entryOf}
 use Rattle.trial.specs.Record.{figureCount}
 use Rattle.trial.specs.Internal.{Ranged}
 use Rattle.trial.specs.declared.Design.{Design}
@@ -112,16 +113,16 @@ count-at n t h k =
     ∙ sym (choices-length n t)
 
 -- the test of a layout
-pub shops-outside : (n t : ℕ) (b : Bool) → b ≡ outside 2 shopsMost n → b ≡ true → true ≡ (outside 2 shopsMost n || outside 1 (n - 1) t)
+pub shops-outside : (n t : ℕ) (b : Bool) → b ≡ outside 2 shopsMost n → b ≡ true → true ≡ badShops n t
 shops-outside n t b e h = or-holds (outside 2 shopsMost n) (outside 1 (n - 1) t) (sym e ∙ h)
 
 pub pairs-judged : (d : Design) (n r : ℕ) (b : Bool) → d ≡ Paired n → b ≡ outside 1 pairsMost n → r ≡ cond b 4 0 → r ≡ firstRefusal (designChecks d)
 unfolding designChecks
 pairs-judged d n r b e q f = judged-last b (outside 1 pairsMost n) r4 r q f ∙ ap (λ (x : Design). firstRefusal (designChecks x)) (sym e)
 
-pub shops-judged : (d : Design) (n t r : ℕ) (b : Bool) → d ≡ Unpaired n t → b ≡ (outside 2 shopsMost n || outside 1 (n - 1) t) → r ≡ cond b 15 0 → r ≡ firstRefusal (designChecks d)
+pub shops-judged : (d : Design) (n t r : ℕ) (b : Bool) → d ≡ Unpaired n t → b ≡ badShops n t → r ≡ cond b 15 0 → r ≡ firstRefusal (designChecks d)
 unfolding designChecks
-shops-judged d n t r b e q f = judged-last b (outside 2 shopsMost n || outside 1 (n - 1) t) r15 r q f ∙ ap (λ (x : Design). firstRefusal (designChecks x)) (sym e)
+shops-judged d n t r b e q f = judged-last b (badShops n t) r15 r q f ∙ ap (λ (x : Design). firstRefusal (designChecks x)) (sym e)
 
 -- how many figures
 pub count-is : (s : Shape) (n : ℕ) → n ≡ unitsOf (s .design) → s .offers * n ≡ figureCount s

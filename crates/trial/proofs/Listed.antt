@@ -6,7 +6,7 @@
 --   spread-first                 the first places have the shops of c
 --   contrast-listed              a contrast of listed figures is one of the figures in their shops
 --   same-figure, own-figure      what passes the test of equal figures
---   alike-listed, level-listed   figures that are all equal are so in every listing
+--   level-listed                 figures that are all equal are so in every listing
 use Prim.Native.Nat.{ℕ, suc, _+_, _-_}
 use native.Mathlib.Omega.{arith}
 use mathlib.Core.Path.{_≡_, refl, sym, ap, ap₂, _∙_, subst}
@@ -208,7 +208,7 @@ unfolding sameFigure
 own-figure (pos n) = eqb-refl n
 own-figure (negsuc n) = eqb-refl n
 
-pub alike-listed : (z : ℤ) (c : Choice) (xs : List ℤ) → length xs ≡ length c → alike z (chosenFirst c xs) ≡ alike z xs
+alike-listed : (z : ℤ) (c : Choice) (xs : List ℤ) → length xs ≡ length c → alike z (chosenFirst c xs) ≡ alike z xs
 unfolding alike
 alike-listed z c xs l = chosenFirst-all c xs l (λ x. sameFigure x z)
 

@@ -66,11 +66,6 @@ signedSum-small g (d ∷ ds) h =
 
 -- ---- exchanging twice
 
-pub exchangedBy-length : (g : ℕ) (ds : List ℤ) → length (exchangedBy g ds) ≡ length ds
-unfolding exchangedBy
-exchangedBy-length g [] = refl
-exchangedBy-length g (d ∷ ds) = ap suc (exchangedBy-length (g / 2) ds)
-
 exchange-twice : (x y : ℕ) (d : ℤ) → x < 2 → y < 2 → exchanged (eqb x 1) (exchanged (eqb y 1) d) ≡ exchanged (eqb (bitXor x y) 1) d
 exchange-twice x y d h k =
     digit-cases (λ (a : ℕ). exchanged (eqb a 1) (exchanged (eqb y 1) d) ≡ exchanged (eqb (bitXor a y) 1) d)

@@ -1,4 +1,5 @@
 -- Laws of a trial's table: its rows.
+--   drop-take                        what is taken after so many members
 --   byOffer-figures, byOffer-length  the figures of each offer, in the array, and of how many
 --   entries-small, rowOf-all         the entries of a row are at most 2^53, and what holds of such numbers holds of its values
 --   rowOf-.., trialRows-..           how long rows are, how many, which; those of an accepted trial are finite
@@ -36,7 +37,7 @@ use Rattle.trial.proofs.Sums.{InRange, all-in-range}
 use Rattle.trial.proofs.LaidOut.{entry-small}
 use Rattle.trial.proofs.Accepted.{Accepted}
 
--- ---- differences, offer by offer
+-- ---- figures, offer by offer
 
 pub drop-take : {A : Type 0} (n m : ℕ) (xs : List A) → drop n (take (n + m) xs) ≡ take m (drop n xs)
 drop-take n m xs = ap (drop n) (take-add n m xs) ∙ seam (decLe n (length xs))
@@ -64,7 +65,7 @@ pub byOffer-length : (t : Trial) → length (byOffer t) ≡ t .shape .offers
 unfolding byOffer
 byOffer-length t = rowsOf-length (t .shape .offers) (unitsOf (t .shape .design)) (figuresOf t)
 
--- an offer's differences: at most n of them, all in range
+-- an offer's figures: at most n of them, all in range
 okOffer : ℕ → List ℤ → Bool
 okOffer n ds = leb (length ds) n && all (λ d. not (badDifference d)) ds
 

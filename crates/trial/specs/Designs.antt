@@ -1,6 +1,7 @@
 -- How a trial was laid out, and all that goes by its cases: nothing else of a trial knows them. Definitions only.
 --   sameFigure x y       two figures are equal
 --   alike z xs           every figure equals z
+--   badShops n t         the condition of 15: n shops are not 2 to 10, or t treated ones are not 1 to all but one
 --   designChecks d       what a layout is turned away for: pairs outside their range (4), shops or treated outside theirs (15)
 --   unitsOf d            figures of an offer: one of each pair, or of each shop
 --   rowCount d           M: the rows of the table, one for each way to exchange the shops of pairs, or for each choice of shops
@@ -36,9 +37,12 @@ alike z xs = all (λ x. sameFigure x z) xs
 
 -- ---- by cases
 
+abbrev pub badShops : ℕ → ℕ → Bool
+badShops shops treated = outside 2 shopsMost shops || outside 1 (shops - 1) treated
+
 unfoldable pub designChecks : Design → Checks
 designChecks (Paired pairs) = (outside 1 pairsMost pairs, r4) ∷ []
-designChecks (Unpaired shops treated) = (outside 2 shopsMost shops || outside 1 (shops - 1) treated, r15) ∷ []
+designChecks (Unpaired shops treated) = (badShops shops treated, r15) ∷ []
 
 unfoldable pub unitsOf : Design → ℕ
 unitsOf (Paired pairs) = pairs

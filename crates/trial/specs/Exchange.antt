@@ -1,4 +1,4 @@
--- From pairs to a table (document 01). Definitions only.
+-- From the figures of a trial to its table (document 01; document 02, §6). Definitions only.
 --   rowTotal t          M: the rows of a trial's table
 --   byOffer t           the figures of each offer
 --   figuresAt t i       those of offer i (from 0)

@@ -1,5 +1,5 @@
 -- A definition that laws cite, and private functions of `trialtable`; no contract of this crate does. Definitions only; a reader of the promises doesn't need it.
---   Ranged n xs                      the first n differences are in range
+--   Ranged n xs                      the first n figures are in range
 use Prim.Native.Nat.{ℕ, _≤_, _<_}
 use mathlib.Core.List.{List}
 use lib.ListN.{getD}

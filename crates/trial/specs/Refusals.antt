@@ -1,7 +1,7 @@
--- What of a trial record is turned away: 4, 3, then offers (at each, 5 before 6), then figures (7). Definitions only.
+-- What of a trial record is turned away: 4, 15, 3, then offers (at each, 5 before 6), then figures (7). Definitions only.
 --   badDigits c d        the condition of 5: printed digits outside 1 to 7, or the number c has more digits than d
 --   among c earlier      the condition of 6: the number is an earlier offer's
---   badDifference d      the condition of 7: outside -134,217,727 to 134,217,727
+--   badDifference d      the condition of 7, of a difference or a shop's figure: outside -134,217,727 to 134,217,727
 --   headingChecks l s    4 of the shape, with what its layout adds, then 3 of the level
 --   earlier code i       the numbers of the first i offers, the last of them first
 --   offerChecks code digits i   of offer i (from 0), whose number is code i: 5, then 6

@@ -110,19 +110,17 @@ pub fn bad_difference(d: i32) -> bool
     DIFFERENCE_MOST < d
 }
 
-// The first refusal among the first n figures.
+// The first refusal among the first n figures. All are looked at, the last first, so that the compiler can take many at a time.
 pub(crate) fn figures(xs: &[i32], n: usize) -> u32
     requires { ⌜ n ≤ length (now xs) ⌝ }
     ensures { λ r. ⌜ r ≡ firstRefusal (placesFrom (figureChecks (nth (now (xs .entry)) (pos 0))) 0 n) ⌝ }
 {
-    let mut i: usize = 0;
-    while i < n {
+    let mut r: u32 = 0;
+    let mut i = n;
+    while 0 < i {
+        i -= 1;
         let bad = bad_difference(xs[i]);
-        let r = first_of(bad, 7, 0);
-        if r != 0 {
-            return r;
-        }
-        i += 1;
+        r = first_of(bad, 7, r);
     }
-    0
+    r
 }

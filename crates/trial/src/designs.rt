@@ -4,18 +4,16 @@ use crate::Shape;
 use limits::PAIRS_MOST;
 use limits::SHOPS_MOST;
 ghost use mathlib.Core.Path.{_≡_};
-ghost use mathlib.Core.Bool.{_||_};
 ghost use lib.ListN.{length};
-ghost use Prim.Native.Nat.{_-_, _≤_};
+ghost use Prim.Native.Nat.{_≤_};
 ghost use Rattle.limits.specs.Limits.{offersMost, shopsMost, unitsMost, figuresMost};
 ghost use Rattle.refusals.specs.Answers.{firstRefusal};
-ghost use Rattle.refusals.specs.Limits.{outside};
 ghost use Rattle.trial.specs.Choices.{choices};
-ghost use Rattle.trial.specs.Designs.{designChecks, unitsOf, rowCount, alike, yardstick, untested};
+ghost use Rattle.trial.specs.Designs.{badShops, designChecks, unitsOf, rowCount, alike, yardstick, untested};
 ghost use Rattle.trial.specs.Record.{figureCount};
 
 // How many choices of t of n shops there are: row n, place t.
-const CHOICES: [[usize; 11]; 11] = [
+const CHOICES: [[u8; 11]; 11] = [
     [1, 0, 0, 0, 0, 0, 0, 0, 0, 0, 0],
     [1, 1, 0, 0, 0, 0, 0, 0, 0, 0, 0],
     [1, 2, 1, 0, 0, 0, 0, 0, 0, 0, 0],
@@ -41,7 +39,7 @@ pub fn units(d: Design) -> usize
 
 // The condition of 15.
 fn bad_shops(shops: usize, treated: usize) -> bool
-    ensures { λ r. ⌜ r ≡ (outside 2 shopsMost shops || outside 1 (shops - 1) treated) ⌝ }
+    ensures { λ r. ⌜ r ≡ badShops shops treated ⌝ }
 {
     if refusals::outside(2, SHOPS_MOST, shops) {
         return true;
@@ -64,7 +62,7 @@ pub fn choice_count(shops: usize, treated: usize) -> usize
     requires { ⌜ (shops ≤ shopsMost) × (treated ≤ shopsMost) ⌝ }
     ensures { λ r. ⌜ r ≡ length (choices shops treated) ⌝ }
 {
-    CHOICES[shops][treated]
+    CHOICES[shops][treated] as usize
 }
 
 // M: a row for each way to exchange the shops of pairs, or for each choice of shops.

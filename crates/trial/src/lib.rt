@@ -9,6 +9,7 @@ pub use checks::bad_difference;
 pub use checks::bad_digits;
 pub use checks::first_of;
 pub use checks::offer_refusal;
+// How a trial was laid out, where a file is judged and a table made.
 pub use designs::choice_count;
 pub use designs::design_refusal;
 pub use designs::units;

@@ -3,6 +3,7 @@
 --   w-figures          as printed
 --   aside-figures      W with a third offer of zeros: W's figures, and M for that offer
 --   cancelled-figures, zeros-figures     fewer than k offers remain, and none: every figure is M
+--   shops-figures      trials of shops without partners
 use Prim.Native.Nat.{ℕ}
 use mathlib.Core.Path.{_≡_, refl, ap}
 use mathlib.Core.List.{List, [], _∷_}

@@ -61,7 +61,7 @@ pub record Passed (ws : List ℕ) : Type 0 where
   pub level-good : badLevel (levelIn (word ws levelAt) .a) (levelIn (word ws levelAt) .b) ≡ false
   pub shape-stands : noShape (word ws shapeAt) ≡ false
   pub counts : badColumns offersMost (s ws .offers) (s ws .k) ≡ false
-  pub unused : spareOf (word ws shapeAt) ≡ 0
+  pub spare : spareOf (word ws shapeAt) ≡ 0
   pub laid : NoneHolds (designChecks (s ws .design))
   pub offers : (i : ℕ) → i < s ws .offers → NoneHolds (offerPlace ws (l ws) i)
   pub figures : (i : ℕ) → i < figureCount (s ws) → NoneHolds (figurePlace ws (l ws) i)
@@ -85,7 +85,7 @@ passed ws h =
       level-good = h .1 .0;
       shape-stands = h .1 .1 .0;
       counts = c .0;
-      unused = eqb-true (spareOf (word ws shapeAt)) 0 (not-false (eqb (spareOf (word ws shapeAt)) 0) (c .1));
+      spare = eqb-true (spareOf (word ws shapeAt)) 0 (not-false (eqb (spareOf (word ws shapeAt)) 0) (c .1));
       laid = b .0;
       offers = places-each (offerPlace ws (l ws)) (s ws .offers) (o .0);
       figures = places-each (figurePlace ws (l ws)) (figureCount (s ws)) (d .0);

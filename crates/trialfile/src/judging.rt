@@ -50,8 +50,8 @@ fn judge_shape(w: u32) -> u32
     let spare = words::spare_of(w) != 0;
     let design = shape.design;
     let laid = trial::design_refusal(design);
-    let unused = first_of(spare, 4, laid);
-    let four = first_of(counts, 4, unused);
+    let bits = first_of(spare, 4, laid);
+    let four = first_of(counts, 4, bits);
     first_of(other, 2, four)
 }
 

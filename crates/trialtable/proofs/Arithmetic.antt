@@ -63,7 +63,7 @@ module _ (x y : ℤ) (fx : SFits w64 x) (fy : SFits w64 y) (h : natAbs x ≤ 2 ^
   minus-below = rw minus-is less-below
 
 module _ (n : ℕ) (x : ℤ) (fx : SFits w64 x) (h : n ≤ unitsMost) (k : natAbs x ≤ 2 ^ 40) where
-  times-below : natAbs (pos n *ℤ x) ≤ 10 * natAbs x
+  times-below : natAbs (pos n *ℤ x) ≤ unitsMost * natAbs x
   times-below = omega (arith, abs-times n x, mul-le-mul-right (natAbs x) h)
 
   product : toZ w64 n *ℤ toZ w64 (ofZ w64 x) ≡ pos n *ℤ x
@@ -75,7 +75,7 @@ module _ (n : ℕ) (x : ℤ) (fx : SFits w64 x) (h : n ≤ unitsMost) (k : natAb
   pub times-is : toZ w64 (ofZ w64 (toZ w64 n *ℤ toZ w64 (ofZ w64 x))) ≡ pos n *ℤ x
   times-is = toZ-ofZ times-fits ∙ product
 
-  pub times-most : natAbs (toZ w64 (ofZ w64 (toZ w64 n *ℤ toZ w64 (ofZ w64 x)))) ≤ 10 * natAbs x
+  pub times-most : natAbs (toZ w64 (ofZ w64 (toZ w64 n *ℤ toZ w64 (ofZ w64 x)))) ≤ unitsMost * natAbs x
   times-most = rw times-is times-below
 
 in-float : (z : ℤ) → natAbs z ≤ 2 ^ 53 → T (inFloat binary64 z)
@@ -115,7 +115,7 @@ module _ (n t : ℕ) (hn : n ≤ unitsMost) (ht : t ≤ n) (a b : ℤ) (ha : nat
   pub others-fit : natAbs (toZ w64 (ofZ w64 b)) ≤ 2 ^ 40
   others-fit = rw b-kept (omega (arith, b-small))
 
-  module _ (u v : ℤ) (hu : natAbs u ≤ 10 * natAbs (toZ w64 (ofZ w64 a))) (hv : natAbs v ≤ 10 * natAbs (toZ w64 (ofZ w64 b))) where
+  module _ (u v : ℤ) (hu : natAbs u ≤ unitsMost * natAbs (toZ w64 (ofZ w64 a))) (hv : natAbs v ≤ unitsMost * natAbs (toZ w64 (ofZ w64 b))) where
     u-small : natAbs u ≤ 214748364800
     u-small = omega (arith, ap natAbs a-kept, a-small)
 
@@ -169,7 +169,7 @@ module _ (n : ℕ) (hn : n ≤ unitsMost) (x y : ℤ) (fx : SFits w32 x) (fy : S
     pub difference-fits : natAbs (toZ w64 (ofZ w64 u)) ≤ 2 ^ 40
     difference-fits = rw difference-kept (omega (arith, difference-small))
 
-    module _ (w : ℤ) (hw : natAbs w ≤ 10 * natAbs (toZ w64 (ofZ w64 u))) where
+    module _ (w : ℤ) (hw : natAbs w ≤ unitsMost * natAbs (toZ w64 (ofZ w64 u))) where
       step-kept : toZ w64 (ofZ w64 w) ≡ w
       step-kept = kept w64 w (omega (arith, ap natAbs difference-kept, difference-small))
 

@@ -1,7 +1,7 @@
 -- Laws by which rows are made of those straight before them.
---   offer-place             where a figure stands
 --   first-room, first-more  row 0: what it has room in, and one more entry of it
---   taken-more              one more of the numbers that are taken off
+--   taken-more, taken-before, taken-on     one more of the numbers that are taken off, and one row more
+--   cut-length, cut-taken   the row of j, as the code cuts it out
 --   lowered-turn            one more entry of a row that is made from an earlier one
 --   blocked-turn            one more row of a block
 --   block-places, block-room, block-rows     where the two rows lie, and how far a block goes
@@ -10,44 +10,31 @@
 use Prim.Native.Nat.{ℕ, zero, suc, _+_, _-_, _*_, _^_, _≤_, _<_}
 use native.Mathlib.Numerals.{add-one}
 use native.Mathlib.Omega.{arith}
-use native.Mathlib.Nat.{add-mul, one-mul, zero-mul, mul-le-mul-right, mul-le-mul}
-use mathlib.Core.Path.{_≡_, refl, sym, ap, _∙_}
+use native.Mathlib.Decide.{decLt}
+use native.Mathlib.Nat.{add-mul, one-mul, zero-mul, mul-le-mul-right}
+use mathlib.Core.Path.{_≡_, refl, sym, ap, subst, _∙_}
 use mathlib.Core.List.{List}
-use lib.ListN.{length, getD, take, drop, set, length-drop, length-set}
+use lib.ListN.{length, getD, take, drop, set, length-drop}
 use lib.Seq.{length-take-le, getD-take, getD-drop, getD-set-other, getD-set-same}
-use lib.IntN.{ℤ, pos, natAbs, negℤ, _-ℤ_}
+use lib.IntN.{ℤ, pos, natAbs}
 use lib.Ieee.{Float, nan, binary64, ofInt, sub}
 use borrow.Author.Count.{below-more}
-use borrow.Author.Needs.{read-below}
-use Rattle.limits.specs.Limits.{trialRowsMost}
+use Rattle.limits.specs.Limits.{offersMost, unitsMost, figuresMost, trialRowsMost}
 use Rattle.order.proofs.Lists.{part-rows}
 use Rattle.refusals.specs.Buffers.{written}
 use Rattle.refusals.proofs.Answers.{none-holds}
 use Rattle.trial.specs.Designs.{designChecks, unitsOf, rowCount, entryOf}
 use Rattle.trial.specs.Internal.{Ranged}
 use Rattle.trial.specs.declared.Design.{Design}
-use Rattle.trial.specs.declared.Design.the-variants.{Paired, Unpaired}
-use Rattle.trial.proofs.Contrasts.{abs-times}
 use Rattle.trial.proofs.LaidOut.{LaidOut, laid-out, entry-small}
-use Rattle.trial.proofs.Sums.{abs-add, abs-neg}
-use Rattle.trialtable.specs.Internal.{tableFor, Fillable, begun, takenOff, Reached, Steps, lowered, blocked}
+use Rattle.trialtable.specs.Internal.{tableFor, Fillable, begun, takenOff, TakenOff, Steps, lowered, blocked}
+use Rattle.trialtable.proofs.Cases.{taken-small}
 use Rattle.trialtable.proofs.Places.{tableFor-length, tableFor-place, begun-more, begun-all, begun-again, begun-at}
 use Rattle.trialtable.proofs.Subtraction.{sub-rounds}
 
--- ---- an offer's figures
-
-pub offer-place : (offers n i j : ℕ) → i < offers → j < n → i * n + j < offers * n
+-- where a figure stands
+offer-place : (offers n i j : ℕ) → i < offers → j < n → i * n + j < offers * n
 offer-place offers n i j h k = omega (arith, part-rows offers n i h)
-
--- how large what is taken off can be, and which figures it needs
-taken-small : (d : Design) (j : ℕ) (ys : List ℤ) → unitsOf d ≤ 10 → length ys ≡ unitsOf d → Reached d j → Ranged (length ys) ys → natAbs (takenOff d j ys) ≤ 2 ^ 53
-unfolding takenOff Reached unitsOf
-taken-small (Paired n) j ys u l h r = omega (arith, abs-add (getD ys j (pos 0)) (getD ys j (pos 0)), r j (omega arith))
-taken-small (Unpaired n t) j ys u l h r =
-    let x = getD ys (j - 1) (pos 0) in
-    let y = getD ys j (pos 0) in
-    let b : natAbs (x -ℤ y) ≤ 268435454 = omega (arith, abs-add x (negℤ y), abs-neg y, r (j - 1) (omega arith), r j (omega arith)) in
-    omega (arith, abs-times n (x -ℤ y), mul-le-mul u b)
 
 module _ (d : Design) (offers : ℕ) (xs : List ℤ) (places : ℕ) (ok : Fillable d offers xs places) where
   abbrev n : ℕ
@@ -103,8 +90,36 @@ module _ (d : Design) (offers : ℕ) (xs : List ℤ) (places : ℕ) (ok : Fillab
 
 -- ---- what is taken off, offer by offer
 
-pub taken-more : (f : ℕ → Float) (off : List Float) (i : ℕ) (v : Float) → i < length off → ((k : ℕ) → k < i → getD off k nan ≡ f k) → v ≡ f i → (k : ℕ) → k < i + 1 → getD (set off i v) k nan ≡ f k
-taken-more f off i v l h e = below-more (λ k. getD (set off i v) k nan ≡ f k) i (λ k m. read-below Float off i k v nan (f k) m (h k m)) (getD-set-same off i v nan l ∙ e)
+-- one more of a row
+pub taken-more : (f : ℕ → Float) (off : List Float) (base i : ℕ) (v : Float) → base + i < length off → ((k : ℕ) → k < i → getD off (base + k) nan ≡ f k) → v ≡ f i
+    → (k : ℕ) → k < i + 1 → getD (set off (base + i) v) (base + k) nan ≡ f k
+taken-more f off base i v l h e =
+    below-more (λ k. getD (set off (base + i) v) (base + k) nan ≡ f k) i (λ k m. getD-set-other off (base + i) (base + k) v nan (λ q. omega arith) ∙ h k m) (getD-set-same off (base + i) v nan l ∙ e)
+
+pub taken-before : (off : List Float) (q p : ℕ) (v : Float) → p < q → getD (set off q v) p nan ≡ getD off p nan
+taken-before off q p v h = getD-set-other off q p v nan (λ e. omega arith)
+
+-- one row more
+pub taken-on : (d : Design) (offers : ℕ) (xs : List ℤ) (off next : List Float) (first j : ℕ) → offers ≤ offersMost → ((k : ℕ) → first ≤ k → k < j → TakenOff d offers xs off k) → TakenOff d offers xs next j
+    → ((p : ℕ) → p < offersMost * j → getD next p nan ≡ getD off p nan) → (k : ℕ) → first ≤ k → k < j + 1 → TakenOff d offers xs next k
+taken-on d offers xs off next first j h old new same k l m = go (decLt k j)
+  where
+    go : Dec (k < j) → TakenOff d offers xs next k
+    go (yes q) = λ i u. same (offersMost * k + i) (omega arith) ∙ old k l q i u
+    go (no q) = let e : j ≡ k = omega (arith, q) in subst (TakenOff d offers xs next) e new
+
+-- the row of j, as the code cuts it out
+row-cut : (off : List Float) (j i : ℕ) → i < offersMost → getD (take (offersMost * j + offersMost - offersMost * j) (drop (offersMost * j) off)) i nan ≡ getD off (offersMost * j + i) nan
+row-cut off j i h = let e : offersMost * j + offersMost - offersMost * j ≡ offersMost = omega arith in rw e (getD-take offersMost (drop (offersMost * j) off) i nan h ∙ getD-drop (offersMost * j) off i nan)
+
+pub cut-length : (off : List Float) (j : ℕ) → j < unitsMost → length off ≡ figuresMost → length (take (offersMost * j + offersMost - offersMost * j) (drop (offersMost * j) off)) ≡ offersMost
+cut-length off j h l =
+    let e : offersMost * j + offersMost - offersMost * j ≡ offersMost = omega arith in
+    rw e (length-take-le offersMost (drop (offersMost * j) off) (simp length-drop (omega arith)))
+
+pub cut-taken : (d : Design) (offers : ℕ) (xs : List ℤ) (off : List Float) (j : ℕ) → offers ≤ offersMost → TakenOff d offers xs off j
+    → (i : ℕ) → i < offers → getD (take (offersMost * j + offersMost - offersMost * j) (drop (offersMost * j) off)) i nan ≡ ofInt binary64 (takenOff d j (take (unitsOf d) (drop (i * unitsOf d) xs)))
+cut-taken d offers xs off j h t i l = row-cut off j i (omega arith) ∙ t i l
 
 -- ---- a row in the buffer
 
@@ -146,10 +161,14 @@ pub block-places : (offers at rows h : ℕ) → rows ≤ at → h < rows
 block-places offers at rows h k l =
     (part-rows (at + h) offers (at + h - rows) (omega arith), part-rows (at + rows) offers (at + h) (omega arith))
 
-module _ (d : Design) (offers : ℕ) (xs : List ℤ) (buf : List Float) (ok : Fillable d offers xs (length buf)) (at rows j : ℕ) (s : Steps d at rows j) (off : List Float)
-    (taken : (i : ℕ) → i < offers → getD off i nan ≡ ofInt binary64 (takenOff d j (take (unitsOf d) (drop (i * unitsOf d) xs)))) where
+module _ (d : Design) (offers : ℕ) (xs : List ℤ) (buf : List Float) (ok : Fillable d offers xs (length buf)) (at rows j : ℕ) (s : Steps d at rows j) where
   pub block-room : (at + rows) * offers ≤ rowCount d * offers
   block-room = mul-le-mul-right offers (s .inside)
+
+module _ (d : Design) (offers : ℕ) (xs : List ℤ) (buf : List Float) (ok : Fillable d offers xs (length buf)) (at rows j : ℕ) (s : Steps d at rows j) (off : List Float)
+    (taken : (i : ℕ) → i < offers → getD off i nan ≡ ofInt binary64 (takenOff d j (take (unitsOf d) (drop (i * unitsOf d) xs)))) where
+  room : (at + rows) * offers ≤ rowCount d * offers
+  room = block-room d offers xs buf ok at rows j s
 
   rows-more : (h : ℕ) → h ≤ rows → blocked h rows offers off at (begun (at * offers) (tableFor d offers xs) buf) ≡ begun ((at + h) * offers) (tableFor d offers xs) buf
   unfolding blocked
@@ -159,7 +178,7 @@ module _ (d : Design) (offers : ℕ) (xs : List ℤ) (buf : List Float) (ok : Fi
       let m = tableFor-length d offers xs in
       let z : (at + h) * offers + offers ≡ (at + suc h) * offers = omega (arith, add-mul at h offers, add-mul at (suc h) offers, add-mul h 1 offers, one-mul offers) in
       ap (lowered offers off ((at + h - rows) * offers) ((at + h) * offers)) (rows-more h (omega arith))
-      ∙ lowered-begun offers off (tableFor d offers xs) buf ((at + h - rows) * offers) ((at + h) * offers) (p .0) (omega (arith, block-room)) (omega (arith, block-room, ok .room))
+      ∙ lowered-begun offers off (tableFor d offers xs) buf ((at + h - rows) * offers) ((at + h) * offers) (p .0) (omega (arith, room)) (omega (arith, room, ok .room))
       (λ i u. entry-steps d offers xs (length buf) ok i u at rows j h s (omega arith) ∙ ap (λ (x : Float). sub binary64 (getD (tableFor d offers xs) ((at + h - rows) * offers + i) nan) x) (sym (taken i u)))
       ∙ ap (λ (r : ℕ). begun r (tableFor d offers xs) buf) z
 

@@ -1,13 +1,16 @@
--- Laws by how a trial was laid out: of this crate only Doubling, Choosing and Chosen know the cases too.
+-- Laws by how a trial was laid out: of this crate only Doubling and Chosen know the cases too.
 --   first-pairs, first-shops     the entry in row 0, as the code finds it, and where its figures stand
 --   taken-pairs, taken-shops     the same of what is taken off
+--   taken-small                  how large what is taken off can be
+--   first-pair, first-shop       the first j that makes rows
 use Prim.Native.Nat.{ℕ, _+_, _-_, _^_, _≤_, _<_}
 use native.Mathlib.Omega.{arith}
-use mathlib.Core.Path.{_≡_, sym, ap, ap₂, _∙_, subst}
+use native.Mathlib.Nat.{mul-le-mul}
+use mathlib.Core.Path.{_≡_, sym, ap, ap₂, _∙_}
 use mathlib.Core.List.{List}
 use lib.ListN.{length, getD, take, drop, length-drop}
 use lib.Seq.{take-take, drop-drop, length-take-le, getD-take, getD-drop}
-use lib.IntN.{ℤ, pos, _+ℤ_, _-ℤ_, _*ℤ_}
+use lib.IntN.{ℤ, pos, natAbs, negℤ, _+ℤ_, _-ℤ_, _*ℤ_}
 use lib.Signed.{mag}
 use mir.Syntax.{w32}
 use mir.Val.{toZ, ofZ}
@@ -17,11 +20,14 @@ use Rattle.refusals.specs.Answers.{firstRefusal}
 use Rattle.refusals.proofs.Answers.{NoneHolds, none-holds}
 use Rattle.trial.specs.Choices.{sumOf}
 use Rattle.trial.specs.Designs.{designChecks, unitsOf, entryOf}
+use Rattle.trial.specs.Internal.{Ranged}
 use Rattle.trial.specs.declared.Design.{Design}
 use Rattle.trial.specs.declared.Design.the-variants.{Paired, Unpaired}
+use Rattle.trial.proofs.Contrasts.{abs-times}
 use Rattle.trial.proofs.LaidOut.{laid-out, shops-inside}
+use Rattle.trial.proofs.Sums.{abs-add, abs-neg}
 use Rattle.trial.proofs.Tables.{drop-take}
-use Rattle.trialtable.specs.Internal.{takenOff, Reached}
+use Rattle.trialtable.specs.Internal.{takenOff, firstStep, Reached}
 use Rattle.trialtable.proofs.Choosing.{contrast-first}
 use Rattle.trialtable.proofs.Doubling.{sum-plain}
 
@@ -57,9 +63,9 @@ module _ (d : Design) (good : firstRefusal (designChecks d) ≡ 0) (xs : List �
     )
 
     pub taken-pairs : (j : ℕ) → Reached d j → (base + j < length xs) × (mag (getD xs (base + j) (pos 0)) < 2 ^ 31 → asRead (base + j) +ℤ asRead (base + j) ≡ takenOff d j ys)
-    unfolding Reached takenOff
+    unfolding takenOff
     taken-pairs j r =
-        let h : j < n = subst (λ (e : Design). Reached e j) q r in
+        let h : j < n = omega (arith, r, units) in
         (omega (arith, units), λ f. ap (λ (z : ℤ). z +ℤ z) (as-read (base + j) f ∙ sym (ys-at j (omega (arith, units)))) ∙ ap (λ (e : Design). takenOff e j ys) (sym q))
 
   module _ (n t : ℕ) (q : d ≡ Unpaired n t) where
@@ -88,9 +94,10 @@ module _ (d : Design) (good : firstRefusal (designChecks d) ≡ 0) (xs : List �
 
     pub taken-shops : (j : ℕ) → Reached d j → (0 < j) × (base + j < length xs) × (n ≤ unitsMost)
         × (mag (getD xs (base + j - 1) (pos 0)) < 2 ^ 31 → mag (getD xs (base + j) (pos 0)) < 2 ^ 31 → pos n *ℤ (asRead (base + j - 1) -ℤ asRead (base + j)) ≡ takenOff d j ys)
-    unfolding Reached takenOff
+    unfolding takenOff firstStep
     taken-shops j r =
-        let h : (0 < j) × (j < n) = subst (λ (e : Design). Reached e j) q r in
+        let f : firstStep d ≡ 1 = ap firstStep q in
+        let h : (0 < j) × (j < n) = (omega (arith, r, f), omega (arith, r, shops)) in
         let c : base + j - 1 ≡ base + (j - 1) = omega arith in (
           h .0,
           omega (arith, shops),
@@ -99,3 +106,22 @@ module _ (d : Design) (good : firstRefusal (designChecks d) ≡ 0) (xs : List �
               ap₂ (λ (x y : ℤ). pos n *ℤ (x -ℤ y)) (as-read (base + j - 1) f ∙ ap (λ (k : ℕ). getD xs k (pos 0)) c ∙ sym (ys-at (j - 1) (omega (arith, shops)))) (as-read (base + j) g ∙ sym (ys-at j (omega (arith, shops))))
               ∙ ap (λ (e : Design). takenOff e j ys) (sym q),
         )
+
+-- how large what is taken off can be
+pub taken-small : (d : Design) (j : ℕ) (ys : List ℤ) → unitsOf d ≤ unitsMost → length ys ≡ unitsOf d → Reached d j → Ranged (length ys) ys → natAbs (takenOff d j ys) ≤ 2 ^ 53
+unfolding takenOff firstStep unitsOf
+taken-small (Paired n) j ys u l h r = omega (arith, abs-add (getD ys j (pos 0)) (getD ys j (pos 0)), r j (omega arith))
+taken-small (Unpaired n t) j ys u l h r =
+    let x = getD ys (j - 1) (pos 0) in
+    let y = getD ys j (pos 0) in
+    let b : natAbs (x -ℤ y) ≤ 268435454 = omega (arith, abs-add x (negℤ y), abs-neg y, r (j - 1) (omega arith), r j (omega arith)) in
+    omega (arith, abs-times n (x -ℤ y), mul-le-mul u b)
+
+-- the first step, as the code finds it
+pub first-pair : (d : Design) {n : ℕ} → d ≡ Paired n → 0 ≡ firstStep d
+unfolding firstStep
+first-pair d q = ap firstStep (sym q)
+
+pub first-shop : (d : Design) {n t : ℕ} → d ≡ Unpaired n t → 1 ≡ firstStep d
+unfolding firstStep
+first-shop d q = ap firstStep (sym q)

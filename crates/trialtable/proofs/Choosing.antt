@@ -1,7 +1,9 @@
 -- Laws by which the table of shops is made, block by block (document 02, §6). Shops are counted from 0.
 --   blockAt n t p m     the first row of the block of p and m: its choices of t of n shops have the shops 0 .. p - 1, then none before m, then m
 --   blockRows n t p m   how many rows it has
---   at-first, at-next, at-last     the blocks of p follow one another, from the end of the rows of p + 1 to that of the rows of p
+--   fewer-choices       fewer shops have fewer choices
+--   more-chosen         so have as many shops more that are all chosen
+--   at-first, at-next   the blocks of p follow one another, from the end of the rows of p + 1 on
 --   block-fits          as many rows stand before a block, and it ends within the table
 --   contrast-block      a row of a block is the row that is so many rows before it, less n times what shop m - 1 has more than shop m
 --   contrast-first      row 0 has the first t shops
@@ -15,7 +17,7 @@ use lib.ListN.{length, getD, take, drop, replicate, length-append, length-map, l
 use lib.IntN.{ℤ, pos, negsuc, negℤ, _+ℤ_, _-ℤ_, _*ℤ_, +ℤ-assoc, +ℤ-comm, +ℤ-idl, +ℤ-invr, negℤ-+ℤ, sucℤ-*ℤ, zero-*ℤ}
 use Rattle.columns.specs.Columns.{within, choose}
 use Rattle.trial.specs.Choices.{Choice, choices, choiceAt, rest, sumOf, contrast}
-use Rattle.trial.proofs.Choices.{binomial, choices-length, choice-with, later-row, first-choice}
+use Rattle.trial.proofs.Choices.{binomial, choices-length, choices-more, choice-with, later-row, first-choice}
 
 -- ---- where the blocks are
 
@@ -28,20 +30,16 @@ blockRows n t p m = length (choices (n - m - 1) (t - p - 1))
 abbrev rows : ℕ → ℕ → ℕ
 rows n t = length (choices n t)
 
--- the choices with the first shop, and those without it
-both : (n t : ℕ) → rows (suc n) (suc t) ≡ rows n t + rows n (suc t)
+-- fewer shops have fewer choices
+pub fewer-choices : (m n t : ℕ) → m ≤ n → length (choices m t) ≤ length (choices n t)
 unfolding binomial
-both n t = omega (arith, choices-length (suc n) (suc t), choices-length n t, choices-length n (suc t))
-
-more-shops : (m n t : ℕ) → m ≤ n → rows m t ≤ rows n t
-unfolding binomial
-more-shops m n zero h = omega (arith, choices-length m 0, choices-length n 0)
-more-shops zero n (suc t) h = omega (arith, choices-length 0 (suc t))
-more-shops (suc m) zero (suc t) h = absurd (omega arith)
-more-shops (suc m) (suc n) (suc t) h = omega (arith, both m t, both n t, more-shops m n t (omega arith), more-shops m n (suc t) (omega arith))
+fewer-choices m n zero h = omega (arith, choices-length m 0, choices-length n 0)
+fewer-choices zero n (suc t) h = omega (arith, choices-length 0 (suc t))
+fewer-choices (suc m) zero (suc t) h = absurd (omega arith)
+fewer-choices (suc m) (suc n) (suc t) h = omega (arith, choices-more m t, choices-more n t, fewer-choices m n t (omega arith), fewer-choices m n (suc t) (omega arith))
 
 -- p shops more, and all of them chosen
-more-chosen : (p n t : ℕ) → rows n t ≤ rows (p + n) (p + t)
+pub more-chosen : (p n t : ℕ) → length (choices n t) ≤ length (choices (p + n) (p + t))
 more-chosen zero n t =
     let e : 0 + n ≡ n = omega arith in
     let f : 0 + t ≡ t = omega arith in
@@ -49,7 +47,7 @@ more-chosen zero n t =
 more-chosen (suc p) n t =
     let e : suc p + n ≡ suc (p + n) = omega arith in
     let f : suc p + t ≡ suc (p + t) = omega arith in
-    rw (e, f) (omega (arith, both (p + n) (p + t), more-chosen p n t))
+    rw (e, f) (omega (arith, choices-more (p + n) (p + t), more-chosen p n t))
 
 -- the same, at the numbers of a block
 both-at : (n t p m : ℕ) → p < t → m < n → rows (n - m) (t - p) ≡ blockRows n t p m + rows (n - (m + 1)) (t - p)
@@ -57,7 +55,7 @@ both-at n t p m h k =
     let e : n - m ≡ suc (n - m - 1) = omega arith in
     let f : t - p ≡ suc (t - p - 1) = omega arith in
     let g : n - (m + 1) ≡ n - m - 1 = omega arith in
-    cc (both (n - m - 1) (t - p - 1))
+    cc (choices-more (n - m - 1) (t - p - 1))
 
 pub at-first : (n t p : ℕ) → p < t → t ≤ n → blockAt n t p (p + 1) ≡ length (choices (n - (p + 1)) (t - (p + 1)))
 at-first n t p h k =
@@ -65,16 +63,9 @@ at-first n t p h k =
     let f : t - (p + 1) ≡ t - p - 1 = omega arith in
     omega (arith, both-at n t p p h (omega arith), ap₂ rows e f)
 
-pub at-last : (n t p m : ℕ) → p < t → t ≤ n → n ≤ m → blockAt n t p m ≡ length (choices (n - p) (t - p))
-unfolding binomial
-at-last n t p m h k l =
-    let e : n - m ≡ 0 = omega arith in
-    let f : t - p ≡ suc (t - p - 1) = omega arith in
-    omega (arith, ap₂ rows e f, choices-length 0 (suc (t - p - 1)))
-
 module _ (n t p m : ℕ) (h : p < t) (k : t ≤ n) (l : p < m) (r : m < n) where
   pub at-next : blockAt n t p m + blockRows n t p m ≡ blockAt n t p (m + 1)
-  at-next = omega (arith, both-at n t p m h r, more-shops (n - m) (n - p) (t - p) (omega arith))
+  at-next = omega (arith, both-at n t p m h r, fewer-choices (n - m) (n - p) (t - p) (omega arith))
 
   pub block-fits : (blockRows n t p m ≤ blockAt n t p m) × (blockAt n t p m + blockRows n t p m ≤ length (choices n t))
   block-fits =
@@ -84,8 +75,8 @@ module _ (n t p m : ℕ) (h : p < t) (k : t ≤ n) (l : p < m) (r : m < n) where
         arith,
         both-at n t p p h (omega arith),
         both-at n t p m h r,
-        more-shops (n - m) (n - (p + 1)) (t - p) (omega arith),
-        more-shops (n - m - 1) (n - p - 1) (t - p - 1) (omega arith),
+        fewer-choices (n - m) (n - (p + 1)) (t - p) (omega arith),
+        fewer-choices (n - m - 1) (n - p - 1) (t - p - 1) (omega arith),
         more-chosen p (n - p) (t - p),
         ap₂ rows e f,
       )
@@ -108,7 +99,7 @@ left-out : (n t g : ℕ) → g < rows n t → choiceAt (suc n) t (rows (suc n) t
 unfolding choices choose binomial
 left-out n zero g h = let z : g ≡ 0 = omega (arith, choices-length n 0) in rw z
 left-out n (suc t) g h =
-    let b = both n t in
+    let b = choices-more n t in
     let i : rows (suc n) (suc t) - rows n (suc t) + g ≡ rows n t + g = omega arith in
     let j : rows n t + g - rows n t ≡ g = omega arith in
     ap (choiceAt (suc n) (suc t)) i ∙ later-row n t (rows n t + g) (omega arith) (omega arith) .1 ∙ ap (λ (k : ℕ). false ∷ choiceAt n (suc t) k) j
@@ -121,8 +112,8 @@ none-before zero n t g h =
     rw (e, i)
 none-before (suc q) n t g h =
     let e : suc q + n ≡ suc (q + n) = omega arith in
-    let a = more-shops n (q + n) t (omega arith) in
-    let b = more-shops (q + n) (suc (q + n)) t (omega arith) in
+    let a = fewer-choices n (q + n) t (omega arith) in
+    let b = fewer-choices (q + n) (suc (q + n)) t (omega arith) in
     let i : rows (suc (q + n)) t - rows n t + g ≡ rows (suc (q + n)) t - rows (q + n) t + (rows (q + n) t - rows n t + g) = omega arith in
     rw (e, i) (left-out (q + n) t (rows (q + n) t - rows n t + g) (omega arith) ∙ ap (λ (c : Choice). false ∷ c) (none-before q n t g h))
 
@@ -135,7 +126,7 @@ front-length p q = length-append (replicate p true) (replicate q false) ∙ ap�
 
 front-before : (p q n t g i : ℕ) → g < rows n t → i + rows n t ≡ rows (q + n) t + g → choiceAt (p + (q + n)) (p + t) i ≡ front p q ++ choiceAt n t g
 front-before p q n t g i h e =
-    let a = more-shops n (q + n) t (omega arith) in
+    let a = fewer-choices n (q + n) t (omega arith) in
     let f : i ≡ rows (q + n) t - rows n t + g = omega arith in
     chosen-before p (q + n) t i (omega arith)
     ∙ ap (λ (c : Choice). replicate p true ++ c) (ap (choiceAt (q + n) t) f ∙ none-before q n t g h)
@@ -145,16 +136,16 @@ front-before p q n t g i h e =
 module _ (p q k u h i : ℕ) (l : h < rows k u) (e : i + rows (suc k) (suc u) ≡ rows (q + suc (suc k)) (suc u) + h) where
   choice-block : choiceAt (p + (q + suc (suc k))) (p + suc u) i ≡ front p q ++ false ∷ true ∷ choiceAt k u h
   choice-block =
-      let a = both (suc k) u in
-      let b = both k u in
+      let a = choices-more (suc k) u in
+      let b = choices-more k u in
       front-before p q (suc (suc k)) (suc u) (rows (suc (suc k)) (suc u) - rows (suc k) (suc u) + h) i (omega arith) (omega arith)
       ∙ ap (λ (c : Choice). front p q ++ c) (left-out (suc k) (suc u) h (omega arith) ∙ ap (λ (c : Choice). false ∷ c) (choice-with k u h l))
 
   choice-earlier : choiceAt (p + (q + suc (suc k))) (p + suc u) (i - rows k u) ≡ front p q ++ true ∷ false ∷ choiceAt k u h
   choice-earlier =
-      let a = both (suc k) u in
-      let b = more-shops k (suc k) u (omega arith) in
-      let c = more-shops (suc (suc k)) (q + suc (suc k)) (suc u) (omega arith) in
+      let a = choices-more (suc k) u in
+      let b = fewer-choices k (suc k) u (omega arith) in
+      let c = fewer-choices (suc (suc k)) (q + suc (suc k)) (suc u) (omega arith) in
       let g = rows (suc k) u - rows k u + h in
       front-before p q (suc (suc k)) (suc u) g (i - rows k u) (omega arith) (omega arith)
       ∙ ap (λ (c : Choice). front p q ++ c) (choice-with (suc k) u g (omega arith) ∙ ap (λ (c : Choice). true ∷ c) (left-out k u h l))
@@ -241,7 +232,7 @@ contrast-block n t p m h xs a b c d e l =
     let u = t - p - 1 in
     let z = numbers n t p m a b c d in
     let f = front-length p q in
-    let r = more-shops (n - m) (n - p) (t - p) (omega arith) in
+    let r = fewer-choices (n - m) (n - p) (t - p) (omega arith) in
     let i : blockAt n t p m + h + rows (suc k) (suc u) ≡ rows (q + suc (suc k)) (suc u) + h = omega (arith, ap₂ rows (z .0) (z .2), ap₂ rows (z .1) (z .2)) in
     cc (
       choice-block p q k u h (blockAt n t p m + h) l i,

@@ -1,15 +1,14 @@
 -- Laws by which the table of shops is made, block by block.
 --   shops-known             the counts of an accepted layout
---   no-choice, fewer-choices     one choice where none is treated; fewer shops have fewer choices
+--   no-choice               one choice where none is treated
 --   chooses                 the rows of a block are those straight before them
 --   at-end                  past the last block all choices with the shops before p are there
 --   chosen-room             so many rows are rows of the table
 --   chosen-most, chosen-rising     the choices with the shops before p are among all, and among those with fewer
-use Prim.Native.Nat.{ℕ, zero, suc, _+_, _-_, _*_, _≤_, _<_}
+use Prim.Native.Nat.{ℕ, suc, _+_, _-_, _*_, _≤_, _<_}
 use native.Mathlib.Omega.{arith}
-use native.Mathlib.Decide.{decLt}
 use native.Mathlib.Nat.{mul-le-mul-right}
-use mathlib.Core.Path.{_≡_}
+use mathlib.Core.Path.{_≡_, ap₂}
 use mathlib.Core.List.{List}
 use lib.ListN.{length}
 use lib.IntN.{ℤ}
@@ -21,21 +20,18 @@ use Rattle.trial.specs.Designs.{designChecks, unitsOf, rowCount, entryOf}
 use Rattle.trial.specs.declared.Design.the-variants.{Unpaired}
 use Rattle.trial.proofs.Choices.{binomial, choices-length, choices-more, choices-none}
 use Rattle.trial.proofs.LaidOut.{shops-inside}
-use Rattle.trialtable.specs.Internal.{tableFor, takenOff, Reached, Steps}
+use Rattle.trialtable.specs.Internal.{tableFor, takenOff, firstStep, Steps}
 use Rattle.trialtable.proofs.Places.{tableFor-length}
-use Rattle.trialtable.proofs.Choosing.{blockAt, blockRows, block-fits, contrast-block}
+use Rattle.trialtable.proofs.Choosing.{blockAt, blockRows, more-chosen, block-fits, contrast-block}
 
 pub shops-known : (n t : ℕ) → firstRefusal (designChecks (Unpaired n t)) ≡ 0 → (2 ≤ n) × (n ≤ shopsMost) × (1 ≤ t) × (t < n)
 shops-known n t h = shops-inside n t (none-holds (designChecks (Unpaired n t)) h)
 
 pub chosen-most : (n t p : ℕ) → p ≤ t → t ≤ n → length (choices (n - p) (t - p)) ≤ length (choices n t)
-chosen-most n t zero h k = let e : n - 0 ≡ n = omega arith in let f : t - 0 ≡ t = omega arith in rw (e, f) (omega arith)
-chosen-most zero t (suc p) h k = absurd (omega arith)
-chosen-most (suc n) zero (suc p) h k = absurd (omega arith)
-chosen-most (suc n) (suc t) (suc p) h k =
-    let e : suc n - suc p ≡ n - p = omega arith in
-    let f : suc t - suc p ≡ t - p = omega arith in
-    rw (e, f) (omega (arith, chosen-most n t p (omega arith) (omega arith), choices-more n t))
+chosen-most n t p h k =
+    let e : p + (n - p) ≡ n = omega arith in
+    let f : p + (t - p) ≡ t = omega arith in
+    omega (arith, more-chosen p (n - p) (t - p), ap₂ (λ (x y : ℕ). length (choices x y)) e f)
 
 -- the choices with one shop more are among them
 pub chosen-rising : (n t p : ℕ) → 0 < p → p ≤ t → t ≤ n → length (choices (n - p) (t - p)) ≤ length (choices (n - (p - 1)) (t - (p - 1)))
@@ -49,25 +45,12 @@ pub no-choice : (n : ℕ) → length (choices n 0) ≡ 1
 unfolding binomial
 no-choice n = choices-length n 0
 
--- fewer shops have fewer choices
-one-shop : (n t : ℕ) → length (choices n t) ≤ length (choices (suc n) t)
-one-shop n zero = omega (arith, no-choice n, no-choice (suc n))
-one-shop n (suc t) = omega (arith, choices-more n t)
-
-pub fewer-choices : (m n t : ℕ) → m ≤ n → length (choices m t) ≤ length (choices n t)
-fewer-choices m zero t h = let e : m ≡ 0 = omega arith in rw e (omega arith)
-fewer-choices m (suc n) t h = go (decLt m (suc n)) (fewer-choices m n t)
-  where
-    go : Dec (m < suc n) → (m ≤ n → length (choices m t) ≤ length (choices n t)) → length (choices m t) ≤ length (choices (suc n) t)
-    go (yes k) f = omega (arith, f (omega arith), one-shop n t)
-    go (no k) f = let e : m ≡ suc n = omega (arith, k) in rw e (omega arith)
-
 module _ (n t : ℕ) (h : t < n) where
   pub at-end : (p m : ℕ) → p < t → n - t + p < m → m ≤ n → blockAt n t p m ≡ length (choices (n - p) (t - p))
   at-end p m k l i = omega (arith, choices-none (n - m) (t - p) (omega arith))
 
   pub chooses : (p m at rows : ℕ) → at ≡ blockAt n t p m → rows ≡ blockRows n t p m → p < t → p < m → m ≤ n - t + p → Steps (Unpaired n t) at rows m
-  unfolding unitsOf rowCount entryOf takenOff Reached
+  unfolding unitsOf rowCount entryOf takenOff firstStep
   chooses p m at rows e f k l i =
       let j : m < n = omega arith in
       let b = block-fits n t p m k (omega arith) l j in

@@ -21,7 +21,7 @@ use Rattle.trial.specs.Choices.{sumOf}
 use Rattle.trial.specs.Designs.{designChecks, unitsOf, rowCount, entryOf}
 use Rattle.trial.specs.Pairs.{exchanged, signedSum}
 use Rattle.trial.specs.declared.Design.the-variants.{Paired}
-use Rattle.trialtable.specs.Internal.{tableFor, takenOff, Reached, Steps}
+use Rattle.trialtable.specs.Internal.{tableFor, takenOff, firstStep, Steps}
 use Rattle.trialtable.proofs.Places.{tableFor-length}
 
 pub sum-plain : (ds : List ℤ) → sumOf ds ≡ signedSum 0 ds
@@ -45,11 +45,11 @@ signedSum-doubles (suc j) h (d ∷ ds) l k =
     rw (m, q, signedSum-doubles j (h / 2) ds (omega arith) (omega arith)) (sym (+ℤ-assoc (exchanged (eqb (h % 2) 1) d) (signedSum (h / 2) ds) (negℤ (getD ds j (pos 0) +ℤ getD ds j (pos 0)))))
 
 pub doubles : (pairs j rows : ℕ) → rows ≡ 2 ^ j → j < pairs → Steps (Paired pairs) rows rows j
-unfolding unitsOf rowCount entryOf takenOff Reached
+unfolding unitsOf rowCount entryOf takenOff firstStep
 doubles pairs j rows is k =
     let q : 2 ^ suc j ≤ 2 ^ pairs = pow-mono (omega arith) in
     record {
-      reached = k;
+      reached = (omega arith, k);
       before = omega arith;
       inside = omega (arith, two-pow-succ j);
       entries = λ h ys l m.

@@ -3,7 +3,8 @@
 --   Fillable d offers xs places      that table can be made: the figures are there, in range, and so is room for it
 --   begun n xs buf                   the buffer with the first n members of xs in its first places
 --   takenOff d j ys                  what is taken off an offer's entries, in the rows that pair j, or shop j in the place of the one before it, makes
---   Reached d j                      the figures that are taken off are there
+--   firstStep d, Reached d j         the first j that makes rows; the figures that j takes off are there
+--   TakenOff d offers xs off j       what j takes off each offer's entries stands in an array
 --   Steps d at rows j                so many rows from `at` on are those straight before them, less what j takes off
 --   lowered n off from at buf        the buffer with n places from `at` on made of those from `from` on, each less its own of `off`
 --   blocked n rows offers off at buf     the buffer with n rows from the row `at` on, each made of the one that stands `rows` rows before it
@@ -41,9 +42,16 @@ unfoldable pub takenOff : Design → ℕ → List ℤ → ℤ
 takenOff (Paired pairs) j ys = getD ys j (pos 0) +ℤ getD ys j (pos 0)
 takenOff (Unpaired shops treated) j ys = pos shops *ℤ (getD ys (j - 1) (pos 0) -ℤ getD ys j (pos 0))
 
-unfoldable pub Reached : Design → ℕ → Type 0
-Reached (Paired pairs) j = j < pairs
-Reached (Unpaired shops treated) j = (0 < j) × (j < shops)
+unfoldable pub firstStep : Design → ℕ
+firstStep (Paired pairs) = 0
+firstStep (Unpaired shops treated) = 1
+
+abbrev pub Reached : Design → ℕ → Type 0
+Reached d j = (firstStep d ≤ j) × (j < unitsOf d)
+
+-- in an array that has a row of `offersMost` places for each j
+abbrev pub TakenOff : Design → ℕ → List ℤ → List Float → ℕ → Type 0
+TakenOff d offers xs off j = (i : ℕ) → i < offers → getD off (offersMost * j + i) nan ≡ ofInt binary64 (takenOff d j (take (unitsOf d) (drop (i * unitsOf d) xs)))
 
 pub record Steps (d : Design) (at rows j : ℕ) : Type 0 where
   pub reached : Reached d j

@@ -26,7 +26,7 @@ pub(crate) fn minus(x: i64, y: i64) -> i64
 // So many times a number.
 pub(crate) fn times(n: usize, x: i64) -> i64
     requires { ⌜ (n ≤ unitsMost) × (natAbs x ≤ 2 ^ 40) ⌝ }
-    ensures { λ r. ⌜ (r ≡ pos n *ℤ x) × (natAbs r ≤ 10 * natAbs x) ⌝ }
+    ensures { λ r. ⌜ (r ≡ pos n *ℤ x) × (natAbs r ≤ unitsMost * natAbs x) ⌝ }
 {
     (n as i64) * x
 }

@@ -1,5 +1,6 @@
 // The table of pairs, by doubling: row 2^j + h is row h with twice the difference of pair j taken off.
 use super::rows;
+use limits::OFFERS_MOST;
 use trial::Design;
 ghost use mathlib.Core.Path.{_≡_};
 ghost use lib.ListN.{length};
@@ -13,11 +14,13 @@ pub(crate) fn fill(figures: &[i32], offers: usize, pairs: usize, out: &mut [f64]
     ensures { λ _. ⌜ now (out .exit) ≡ written (tableFor (Paired pairs) offers (now (figures .entry))) (now (out .entry)) ⌝ }
 {
     let d = Design::Paired(pairs);
+    let off = rows::all_taken_off(d, figures, offers);
     rows::first_row(d, figures, offers, out);
     let mut j: usize = 0;
     while j < pairs {
         let at = 1usize << j;
-        rows::extend(d, figures, offers, at, at, j, out);
+        let row = OFFERS_MOST * j;
+        rows::block(&off[row..row + OFFERS_MOST], offers, at, at, out);
         j += 1;
     }
 }

@@ -1,5 +1,6 @@
 // Row 0, and rows made of those straight before them: an entry of such a row costs one subtraction.
 use super::numbers;
+use limits::FIGURES_MOST;
 use limits::OFFERS_MOST;
 use trial::Design;
 ghost use mathlib.Core.Path.{_≡_};
@@ -7,11 +8,11 @@ ghost use Prim.Native.Nat.{ℕ, _+_, _-_, _*_, _≤_, _<_};
 ghost use lib.ListN.{length, getD, take, drop};
 ghost use lib.IntN.{pos, _+ℤ_, _-ℤ_, _*ℤ_};
 ghost use lib.Ieee.{nan, binary64, ofInt};
-ghost use Rattle.limits.specs.Limits.{offersMost, unitsMost, trialRowsMost};
+ghost use Rattle.limits.specs.Limits.{offersMost, unitsMost, figuresMost, trialRowsMost};
 ghost use Rattle.refusals.specs.Answers.{firstRefusal};
 ghost use Rattle.trial.specs.Choices.{sumOf};
 ghost use Rattle.trial.specs.Designs.{designChecks, unitsOf, entryOf};
-ghost use Rattle.trialtable.specs.Internal.{tableFor, Fillable, begun, takenOff, Reached, Steps, lowered, blocked};
+ghost use Rattle.trialtable.specs.Internal.{tableFor, Fillable, begun, takenOff, firstStep, Reached, TakenOff, lowered, blocked};
 
 // The contrast of the first shops, which are the treated ones.
 fn first_contrast(figures: &[i32], base: usize, shops: usize, treated: usize) -> f64
@@ -75,17 +76,41 @@ fn taken_off(d: Design, figures: &[i32], base: usize, j: usize) -> f64
     }
 }
 
-// The same of each offer.
-fn all_taken_off(d: Design, figures: &[i32], offers: usize, j: usize) -> [f64; OFFERS_MOST]
-    requires { ⌜ (offers ≤ offersMost) × (firstRefusal (designChecks d) ≡ 0) × (offers * unitsOf d ≤ length (now figures)) × (Reached d j) ⌝ }
-    ensures { λ r. ⌜ ((i : ℕ) → i < offers → getD r i nan ≡ ofInt binary64 (takenOff d j (take (unitsOf d) (drop (i * unitsOf d) (now (figures .entry)))))) ⌝ }
+// The same of each offer, into row j of an array with a row of places for each j.
+fn taken_row(d: Design, figures: &[i32], offers: usize, j: usize, off: &mut [f64])
+    requires { ⌜ (offers ≤ offersMost) × (firstRefusal (designChecks d) ≡ 0) × (offers * unitsOf d ≤ length (now figures)) × (Reached d j) × (length (now off) ≡ figuresMost) ⌝ }
+    ensures { λ _. ⌜ (TakenOff d offers (now (figures .entry)) (now (off .exit)) j) × ((p : ℕ) → p < offersMost * j → getD (now (off .exit)) p nan ≡ getD (now (off .entry)) p nan) ⌝ }
 {
     let n = trial::units(d);
-    let mut off = [0.0f64; OFFERS_MOST];
+    let at = OFFERS_MOST * j;
     let mut i: usize = 0;
     while i < offers {
-        off[i] = taken_off(d, figures, i * n, j);
+        off[at + i] = taken_off(d, figures, i * n, j);
         i += 1;
+    }
+}
+
+// The first j that makes rows: a pair, or a shop that has one before it.
+fn first_step(d: Design) -> usize
+    ensures { λ r. ⌜ r ≡ firstStep d ⌝ }
+{
+    match d {
+        Design::Paired(_) => 0,
+        Design::Unpaired(_, _) => 1,
+    }
+}
+
+// What each j takes off.
+pub(crate) fn all_taken_off(d: Design, figures: &[i32], offers: usize) -> [f64; FIGURES_MOST]
+    requires { ⌜ (offers ≤ offersMost) × (firstRefusal (designChecks d) ≡ 0) × (offers * unitsOf d ≤ length (now figures)) ⌝ }
+    ensures { λ r. ⌜ ((j : ℕ) → Reached d j → TakenOff d offers (now (figures .entry)) r j) ⌝ }
+{
+    let n = trial::units(d);
+    let mut off = [0.0f64; FIGURES_MOST];
+    let mut j = first_step(d);
+    while j < n {
+        taken_row(d, figures, offers, j, &mut off);
+        j += 1;
     }
     off
 }
@@ -103,7 +128,7 @@ fn row(off: &[f64], offers: usize, from: usize, at: usize, out: &mut [f64])
 }
 
 // So many rows from the row `at` on, from as many straight before them.
-fn block(off: &[f64], offers: usize, at: usize, rows: usize, out: &mut [f64])
+fn row_by_row(off: &[f64], offers: usize, at: usize, rows: usize, out: &mut [f64])
     requires { ⌜ (offers ≤ length (now off)) × (rows ≤ at) × (at + rows ≤ trialRowsMost) × ((at + rows) * offers ≤ length (now out)) ⌝ }
     ensures { λ _. ⌜ now (out .exit) ≡ blocked rows rows offers (now (off .entry)) at (now (out .entry)) ⌝ }
 {
@@ -120,19 +145,14 @@ fn block(off: &[f64], offers: usize, at: usize, rows: usize, out: &mut [f64])
     }
 }
 
-// The table's rows before `at`, and so many rows more, which j makes.
-pub(crate) fn extend(
-    d: Design,
-    figures: &[i32],
-    offers: usize,
-    at: usize,
-    rows: usize,
-    j: usize,
-    out: &mut [f64],
-)
-    requires { ⌜ (Fillable d offers (now figures) (length (now out))) × (Steps d at rows j) × (now out ≡ begun (at * offers) (tableFor d offers (now figures)) (now out)) ⌝ }
-    ensures { λ _. ⌜ now (out .exit) ≡ begun ((at + rows) * offers) (tableFor d offers (now (figures .entry))) (now (out .entry)) ⌝ }
+// The same. The widest table has a loop of its own, whose length the compiler knows.
+pub(crate) fn block(off: &[f64], offers: usize, at: usize, rows: usize, out: &mut [f64])
+    requires { ⌜ (offers ≤ length (now off)) × (rows ≤ at) × (at + rows ≤ trialRowsMost) × ((at + rows) * offers ≤ length (now out)) ⌝ }
+    ensures { λ _. ⌜ now (out .exit) ≡ blocked rows rows offers (now (off .entry)) at (now (out .entry)) ⌝ }
 {
-    let off = all_taken_off(d, figures, offers, j);
-    block(&off, offers, at, rows, out);
+    if offers == OFFERS_MOST {
+        row_by_row(off, OFFERS_MOST, at, rows, out);
+    } else {
+        row_by_row(off, offers, at, rows, out);
+    }
 }

@@ -1,29 +1,39 @@
 // The table of shops without partners. Shops count from 0. The rows whose choice has the shops before p, none from p to m - 1, and m, stand straight
 // after as many rows that have m - 1 in the place of m: so each entry is one of these rows' less so many times the figure of m - 1 less that of m.
 use super::rows;
+use limits::OFFERS_MOST;
 use trial::Design;
 use trial::choice_count;
 ghost use mathlib.Core.Path.{_≡_};
-ghost use Prim.Native.Nat.{_+_, _-_, _*_, _<_};
+ghost use Prim.Native.Nat.{ℕ, _+_, _-_, _*_, _<_};
 ghost use lib.ListN.{length};
+ghost use Rattle.limits.specs.Limits.{figuresMost};
 ghost use Rattle.refusals.specs.Buffers.{written};
 ghost use Rattle.trial.specs.Choices.{choices};
 ghost use Rattle.trial.specs.declared.Design.the-variants.{Unpaired};
-ghost use Rattle.trialtable.specs.Internal.{tableFor, Fillable, begun};
+ghost use Rattle.trialtable.specs.Internal.{tableFor, Fillable, begun, Reached, TakenOff};
 
-// The rows whose choice has the shops before p and not p itself, after those that have p too.
-fn without(figures: &[i32], offers: usize, shops: usize, treated: usize, p: usize, out: &mut [f64])
-    requires { ⌜ (Fillable (Unpaired shops treated) offers (now figures) (length (now out))) × (p < treated) × (now out ≡ begun (length (choices (shops - (p + 1)) (treated - (p + 1))) * offers) (tableFor (Unpaired shops treated) offers (now figures)) (now out)) ⌝ }
+// The rows whose choice has the shops before p and not p itself, after those that have p too. (`figures` stand in the contract: `off` is made of them.)
+fn without(
+    figures: &[i32],
+    off: &[f64],
+    offers: usize,
+    shops: usize,
+    treated: usize,
+    p: usize,
+    out: &mut [f64],
+)
+    requires { ⌜ (Fillable (Unpaired shops treated) offers (now figures) (length (now out))) × (length (now off) ≡ figuresMost) × ((m : ℕ) → Reached (Unpaired shops treated) m → TakenOff (Unpaired shops treated) offers (now figures) (now off) m) × (p < treated) × (now out ≡ begun (length (choices (shops - (p + 1)) (treated - (p + 1))) * offers) (tableFor (Unpaired shops treated) offers (now figures)) (now out)) ⌝ }
     ensures { λ _. ⌜ now (out .exit) ≡ begun (length (choices (shops - p) (treated - p)) * offers) (tableFor (Unpaired shops treated) offers (now (figures .entry))) (now (out .entry)) ⌝ }
 {
-    let d = Design::Unpaired(shops, treated);
     let all = choice_count(shops - p, treated - p);
     let last = shops - treated + p;
     let mut m = p + 1;
     while m <= last {
         let at = all - choice_count(shops - m, treated - p);
         let many = choice_count(shops - m - 1, treated - p - 1);
-        rows::extend(d, figures, offers, at, many, m, out);
+        let row = OFFERS_MOST * m;
+        rows::block(&off[row..row + OFFERS_MOST], offers, at, many, out);
         m += 1;
     }
 }
@@ -34,10 +44,11 @@ pub(crate) fn fill(figures: &[i32], offers: usize, shops: usize, treated: usize,
     ensures { λ _. ⌜ now (out .exit) ≡ written (tableFor (Unpaired shops treated) offers (now (figures .entry))) (now (out .entry)) ⌝ }
 {
     let d = Design::Unpaired(shops, treated);
+    let off = rows::all_taken_off(d, figures, offers);
     rows::first_row(d, figures, offers, out);
     let mut p = treated;
     while 0 < p {
         p -= 1;
-        without(figures, offers, shops, treated, p, out);
+        without(figures, &off, offers, shops, treated, p, out);
     }
 }

@@ -29,7 +29,7 @@ module _ (ws : List ℕ) (p : Passed ws) where
   word-again =
       place-cases s (λ i. word (contentWords (contentsIn ws)) i ≡ word ws i)
       (word-level (contentsIn ws) ∙ level-again (word ws levelAt) (p .level-stands))
-      (word-shape (contentsIn ws) ∙ shape-again (word ws shapeAt) (p .shape-stands) (p .unused))
+      (word-shape (contentsIn ws) ∙ shape-again (word ws shapeAt) (p .shape-stands) (p .spare))
       (λ i h. word-offer (contentsIn ws) i h ∙ ap₂ offerWord (codes-at ws p i h) (digits-at ws p i h) ∙ offer-again (word ws (offerAt l i)) (right-kind 3 (word ws (offerAt l i)) (p .offers i h .0)))
       (λ i h. word-figure (contentsIn ws) i h ∙ ap differenceWord (figures-at ws p i h) ∙ difference-again (word ws (figureAt l i)) (right-kind 4 (word ws (figureAt l i)) (p .figures i h .0)))
       (word-end (contentsIn ws) ∙ end-again (word ws (l .end)) (l .end) (p .end-stands) (p .counted))

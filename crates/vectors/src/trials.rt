@@ -53,7 +53,7 @@ pub(crate) fn print(p: Pen, t: Trial) -> Pen {
     let shape = t.shape;
     let design = shape.design;
     let laid = layout(design);
-    let figures = [
+    let numbers = [
         t.level.a,
         t.level.b,
         shape.k,
@@ -66,7 +66,7 @@ pub(crate) fn print(p: Pen, t: Trial) -> Pen {
     let codes = labels.codes;
     let digits = labels.digits;
     let cents = t.figures;
-    let q = offers(pen::list(p, &figures), codes, digits);
+    let q = offers(pen::list(p, &numbers), codes, digits);
     put_figures(q, cents)
 }
 

@@ -19,7 +19,7 @@ use Rattle.trial.specs.declared.Design.{Design}
 use Rattle.trial.specs.declared.Design.the-variants.{Paired, Unpaired}
 use Rattle.trial.specs.declared.Shape.{Shape}
 use Rattle.trial.proofs.LaidOut.{shops-inside}
-use Rattle.words.specs.Words.{kindOf, unusedOf, kOf, offersOf, pairsOf, shopsK, shopsOffers, shopsOf, treatedOf, pairedIn, unpairedIn, noShape, spareOf, shapeIn, pairedWord, unpairedWord, shapeWordOf}
+use Rattle.words.specs.Words.{kindOf, unusedOf, kOf, offersOf, pairsOf, shopsK, shopsOffers, shopCount, treatedOf, pairedIn, unpairedIn, noShape, spareOf, shapeIn, pairedWord, unpairedWord, shapeWordOf}
 
 -- ---- by the kind, as the code finds it
 
@@ -84,7 +84,7 @@ module _ (k n : ℕ) (hk : k ≤ toleranceMost) (hn : n ≤ offersMost) where
     shops-back =
         let e : shopsK (unpairedWord k n s t) ≡ k = omega arith in
         let f : shopsOffers (unpairedWord k n s t) ≡ n = omega arith in
-        let g : shopsOf (unpairedWord k n s t) ≡ s = omega arith in
+        let g : shopCount (unpairedWord k n s t) ≡ s = omega arith in
         let i : treatedOf (unpairedWord k n s t) ≡ t = omega arith in
         rw (e, f, g, i)
 
@@ -125,7 +125,7 @@ module _ (d : Design) where
 pairs-again : (w : ℕ) → kindOf w ≡ 2 → unusedOf w ≡ 0 → pairedWord (kOf w) (offersOf w) (pairsOf w) ≡ w
 pairs-again w h u = omega (arith, div-div-eq-div-mul w 256 256, div-div-eq-div-mul w 65536 256, div-div-eq-div-mul w 16777216 16)
 
-shops-again : (w : ℕ) → kindOf w ≡ 5 → unpairedWord (shopsK w) (shopsOffers w) (shopsOf w) (treatedOf w) ≡ w
+shops-again : (w : ℕ) → kindOf w ≡ 5 → unpairedWord (shopsK w) (shopsOffers w) (shopCount w) (treatedOf w) ≡ w
 shops-again w h = omega (arith, div-div-eq-div-mul w 256 256, div-div-eq-div-mul w 65536 256, div-div-eq-div-mul w 16777216 16)
 
 -- a shape word made again of its shape

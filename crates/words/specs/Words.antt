@@ -7,14 +7,14 @@
 --   levelKind .. endKind              the kinds 1, 2 and 5 (the shapes of pairs and of shops), 3, 4 and 15
 --   aOf, bOf                          level: bits 27-14, 13-0
 --   unusedOf, kOf, offersOf, pairsOf  shape of pairs: bits 27-24, 23-16, 15-8, 7-0
---   shopsK, shopsOffers, shopsOf, treatedOf     shape of shops without partners (document 02, §6): bits 27-24, 23-16, 15-8, 7-0
+--   shopsK, shopsOffers, shopCount, treatedOf     shape of shops without partners (document 02, §6): bits 27-24, 23-16, 15-8, 7-0
 --   noShape w                         the word is of neither kind of shape
 --   spareOf w                         bits of a shape that have to be 0: those of shops have none
 --   digitsOf, codeOf                  offer: bits 27-24, 23-0
 --   levelIn, shapeIn                  the level and the shape that a word holds; pairedIn, unpairedIn by its kind
---   signed, differenceOf              difference: bits 27-0, two's complement
+--   signed, differenceOf              difference of a pair, or figure of a shop: bits 27-0, two's complement
 --   countOf                           end: bits 27-0
---   bitsOf d                          bits 27-0 of a difference, two's complement
+--   bitsOf d                          the same bits of a number
 --   levelWord .. endWord              the word of each kind that holds the given values
 --   shapeWordOf k offers d            the shape word, by how the trial was laid out
 use Prim.Native.Nat.{ℕ, _+_, _-_, _*_, _/_, _%_}
@@ -98,8 +98,8 @@ shopsK w = w / 16777216 % 16
 abbrev pub shopsOffers : ℕ → ℕ
 shopsOffers w = w / 65536 % 256
 
-abbrev pub shopsOf : ℕ → ℕ
-shopsOf w = w / 256 % 256
+abbrev pub shopCount : ℕ → ℕ
+shopCount w = w / 256 % 256
 
 abbrev pub treatedOf : ℕ → ℕ
 treatedOf w = w % 256
@@ -117,7 +117,7 @@ abbrev pub pairedIn : ℕ → Shape
 pairedIn w = record { k = kOf w; offers = offersOf w; design = Paired (pairsOf w) }
 
 abbrev pub unpairedIn : ℕ → Shape
-unpairedIn w = record { k = shopsK w; offers = shopsOffers w; design = Unpaired (shopsOf w) (treatedOf w) }
+unpairedIn w = record { k = shopsK w; offers = shopsOffers w; design = Unpaired (shopCount w) (treatedOf w) }
 
 unfoldable pub noShape : ℕ → Bool
 noShape w = not (eqb (kindOf w) pairedKind) && not (eqb (kindOf w) unpairedKind)
@@ -156,7 +156,7 @@ shapeWordOf k offers (Unpaired shops treated) = unpairedWord k offers shops trea
 abbrev pub offerWord : ℕ → ℕ → ℕ
 offerWord code digits = offerKind * 268435456 + digits * 16777216 + code
 
--- bits 27-0 of a difference
+-- bits 27-0 of a figure
 unfoldable pub bitsOf : ℤ → ℕ
 bitsOf (pos n) = n
 bitsOf (negsuc n) = 268435455 - n

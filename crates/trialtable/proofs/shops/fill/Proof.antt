@@ -4,11 +4,12 @@ use Prim.Native.Nat.{ℕ, _≤_, _-_, _+_, _*_}
 use native.Mathlib.Omega.{arith}
 use lib.ListN.{length}
 use borrow.Author.Needs.{needs}
+use Rattle.limits.specs.Limits.{figuresMost}
 use Rattle.trial.specs.Choices.{choices}
 use Rattle.trial.specs.declared.Design.the-variants.{Unpaired}
 use Rattle.trial.specs.Designs.{rowCount}
 use Rattle.trial.proofs.Choices.{choices-some}
-use Rattle.trialtable.specs.Internal.{tableFor, Fillable, begun}
+use Rattle.trialtable.specs.Internal.{tableFor, Fillable, begun, Reached, TakenOff}
 use Rattle.trialtable.proofs.Blocks.{rows-held, rows-begin, rows-on, rows-all}
 use Rattle.trialtable.proofs.Places.{tableFor-length}
 use Rattle.trialtable.proofs.Chosen.{shops-known, no-choice, chosen-room, chosen-most, chosen-rising}
@@ -16,52 +17,67 @@ use Rattle.trialtable.proofs.shops.fill.Statement.{statement}
 use Rattle.trialtable.proofs.shops.fill.Tie as tie
 
 abbrev Inv-loop : tie.InvT-loop
-Inv-loop figures offers shops treated out₀ p₀ out p =
+Inv-loop figures offers shops treated out₀ off p₀ out p =
     (p ≤ treated) × (Fillable (Unpaired shops treated) offers figures (length out)) × (length out ≡ length out₀)
     × (out ≡ begun (length (choices (shops - p) (treated - p)) * offers) (tableFor (Unpaired shops treated) offers figures) out₀)
+    × (length off ≡ figuresMost) × ((m : ℕ) → Reached (Unpaired shops treated) m → TakenOff (Unpaired shops treated) offers figures off m)
 
 abbrev μ-loop : tie.MeasureT-loop
-μ-loop figures offers shops treated out₀ p₀ out p = p
+μ-loop figures offers shops treated out₀ off p₀ out p = p
 
 -- the rows whose choices have the shops before p are rows of the table
 room : (c : tie.Start Inv-loop μ-loop) (p : ℕ) → p ≤ c .args .treated
     → length (choices (c .args .shops - p) (c .args .treated - p)) * c .args .offers ≤ length (tableFor (Unpaired (c .args .shops) (c .args .treated)) (c .args .offers) (c .args .figures .now))
 room c p h = let a = c .args in let k = shops-known (a .shops) (a .treated) (c .pre .layout-good) in chosen-room (a .shops) (a .treated) (k .3) (a .offers) (a .figures .now) _ (chosen-most (a .shops) (a .treated) p h (omega (arith, k)))
 
+all-taken-off-requires : tie.Need-all-taken-off-requires Inv-loop μ-loop
+all-taken-off-requires c κs = let f = c .before .pre in (f .offers-most, f .layout-good, f .held)
+
 loop-holds : tie.Need-loop-holds Inv-loop μ-loop
 loop-holds c =
     let f = c .before .before in
-    let s = f .before .before .before in
+    let o = f .before .before in
+    let s = o .before .before in
     let a = s .args in
     let T = tableFor (Unpaired (a .shops) (a .treated)) (a .offers) (a .figures .now) in
     let z : a .treated - a .treated ≡ 0 = omega arith in
     let e : length (choices (a .shops - a .treated) (a .treated - a .treated)) ≡ 1 = ap (λ (t : ℕ). length (choices (a .shops - a .treated) t)) z ∙ no-choice (a .shops - a .treated) in
-    (omega arith, rw (f .first-row .kept .1 .1 .1 .0) (s .pre), refl, rows-begin T (a .offers) _ e (room s (a .treated) (omega arith)) (a .out .now) _ (f .first-row .ensures))
+    let len : length (o .all-taken-off .result) ≡ figuresMost = search needs in (
+      omega arith,
+      rw (f .first-row .kept .1 .1 .1 .0) (s .pre),
+      refl,
+      rows-begin T (a .offers) _ e (room s (a .treated) (omega arith)) (a .out .now) _ (f .first-row .ensures),
+      len,
+      o .all-taken-off .ensures,
+    )
 
 without-requires : tie.Need-without-requires Inv-loop μ-loop
 without-requires c κs =
-    let t = c .before in
+    let t = c .before .before in
     let l = t .before .loop in
-    let s = t .before .before .before .before .before .before .before in
+    let s = t .before .before .before .before .before .before .before .before in
     let a = s .args in
     let T = tableFor (Unpaired (a .shops) (a .treated)) (a .offers) (a .figures .now) in
     let z : l .p - 1 + 1 ≡ l .p = omega (arith, t .loop-test .taken) in
-    (l .inv .1, omega (arith, t .loop-test .taken, l .inv .0), rows-held T (a .offers) _ (room s (l .p) (l .inv .0)) _ (l .out) (l .inv .3) ∙ ap (λ (q : ℕ). begun (length (choices (a .shops - q) (a .treated - q)) * a .offers) T (l .out)) (sym z))
+    let z-rows = ap (λ (q : ℕ). begun (length (choices (a .shops - q) (a .treated - q)) * a .offers) T (l .out)) (sym z) in
+    (l .inv .1, l .inv .4, l .inv .5, omega (arith, t .loop-test .taken, l .inv .0), rows-held T (a .offers) _ (room s (l .p) (l .inv .0)) _ (l .out) (l .inv .3) ∙ z-rows)
 
 loop-again : tie.Need-loop-again Inv-loop μ-loop
 loop-again c =
     let w = c .before .before in
-    let t = w .before .before in
+    let t = w .before .before .before in
     let l = t .before .loop in
-    let s = t .before .before .before .before .before .before .before in
+    let s = t .before .before .before .before .before .before .before .before in
     let a = s .args in
     let T = tableFor (Unpaired (a .shops) (a .treated)) (a .offers) (a .figures .now) in
     let k = shops-known (a .shops) (a .treated) (s .pre .layout-good) in
-    let q = w .without .kept .1 .1 .1 .1 .1 .0 in (
+    let q = w .without .kept .1 .1 .1 .1 .1 .1 .0 in (
       omega (arith, l .inv .0),
       rw q (l .inv .1),
       q ∙ l .inv .2,
       rows-on T (a .offers) _ _ (chosen-rising (a .shops) (a .treated) (l .p) (t .loop-test .taken) (l .inv .0) (omega (arith, k))) (room s (l .p) (l .inv .0)) _ (l .out) _ (l .inv .3) (w .without .ensures),
+      l .inv .4,
+      l .inv .5,
     )
 
 returns : tie.Need-returns Inv-loop μ-loop
@@ -69,7 +85,7 @@ unfolding rowCount
 returns c =
     let l = c .before .loop in
     let f = c .before .before .before .before in
-    let s = f .before .before .before in
+    let s = f .before .before .before .before in
     let a = s .args in
     let k = shops-known (a .shops) (a .treated) (s .pre .layout-good) in
     let z : l .p ≡ 0 = omega (arith, c .loop-test .left) in
@@ -85,8 +101,10 @@ fill-spec =
     (tie.spec
     Inv-loop
     μ-loop
+    all-taken-off-requires
     (λ c κs. search needs)
     loop-holds
+    (λ c. search needs)
     (λ c. search needs)
     without-requires
     (λ c. search needs)
