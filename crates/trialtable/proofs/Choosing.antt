@@ -1,8 +1,7 @@
 -- Laws by which the table of shops is made, block by block (document 02, §6). Shops are counted from 0.
 --   blockAt n t p m     the first row of the block of p and m: its choices of t of n shops have the shops 0 .. p - 1, then none before m, then m
 --   blockRows n t p m   how many rows it has
---   fewer-choices       fewer shops have fewer choices
---   more-chosen         so have as many shops more that are all chosen
+--   more-chosen         with p shops more, all of them chosen, there are as many choices or more
 --   at-first, at-next   the blocks of p follow one another, from the end of the rows of p + 1 on
 --   block-fits          as many rows stand before a block, and it ends within the table
 --   contrast-block      a row of a block is the row that is so many rows before it, less n times what shop m - 1 has more than shop m
@@ -31,7 +30,7 @@ abbrev rows : ℕ → ℕ → ℕ
 rows n t = length (choices n t)
 
 -- fewer shops have fewer choices
-pub fewer-choices : (m n t : ℕ) → m ≤ n → length (choices m t) ≤ length (choices n t)
+fewer-choices : (m n t : ℕ) → m ≤ n → length (choices m t) ≤ length (choices n t)
 unfolding binomial
 fewer-choices m n zero h = omega (arith, choices-length m 0, choices-length n 0)
 fewer-choices zero n (suc t) h = omega (arith, choices-length 0 (suc t))

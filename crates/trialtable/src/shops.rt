@@ -13,7 +13,8 @@ ghost use Rattle.trial.specs.Choices.{choices};
 ghost use Rattle.trial.specs.declared.Design.the-variants.{Unpaired};
 ghost use Rattle.trialtable.specs.Internal.{tableFor, Fillable, begun, Reached, TakenOff};
 
-// The rows whose choice has the shops before p and not p itself, after those that have p too. (`figures` stand in the contract: `off` is made of them.)
+// The rows whose choice has the shops before p and not p itself, after the `from` rows that have p too; and how many rows there are then.
+// (`figures` stand in the contract: `off` is made of them.)
 fn without(
     figures: &[i32],
     off: &[f64],
@@ -21,21 +22,23 @@ fn without(
     shops: usize,
     treated: usize,
     p: usize,
+    from: usize,
     out: &mut [f64],
-)
-    requires { ⌜ (Fillable (Unpaired shops treated) offers (now figures) (length (now out))) × (length (now off) ≡ figuresMost) × ((m : ℕ) → Reached (Unpaired shops treated) m → TakenOff (Unpaired shops treated) offers (now figures) (now off) m) × (p < treated) × (now out ≡ begun (length (choices (shops - (p + 1)) (treated - (p + 1))) * offers) (tableFor (Unpaired shops treated) offers (now figures)) (now out)) ⌝ }
-    ensures { λ _. ⌜ now (out .exit) ≡ begun (length (choices (shops - p) (treated - p)) * offers) (tableFor (Unpaired shops treated) offers (now (figures .entry))) (now (out .entry)) ⌝ }
+) -> usize
+    requires { ⌜ (Fillable (Unpaired shops treated) offers (now figures) (length (now out))) × (length (now off) ≡ figuresMost) × ((m : ℕ) → Reached (Unpaired shops treated) m → TakenOff (Unpaired shops treated) offers (now figures) (now off) m) × (p < treated) × (from ≡ length (choices (shops - (p + 1)) (treated - (p + 1)))) × (now out ≡ begun (from * offers) (tableFor (Unpaired shops treated) offers (now figures)) (now out)) ⌝ }
+    ensures { λ r. ⌜ (r ≡ length (choices (shops - p) (treated - p))) × (now (out .exit) ≡ begun (r * offers) (tableFor (Unpaired shops treated) offers (now (figures .entry))) (now (out .entry))) ⌝ }
 {
-    let all = choice_count(shops - p, treated - p);
     let last = shops - treated + p;
+    let mut at = from;
     let mut m = p + 1;
     while m <= last {
-        let at = all - choice_count(shops - m, treated - p);
         let many = choice_count(shops - m - 1, treated - p - 1);
         let row = OFFERS_MOST * m;
         rows::block(&off[row..row + OFFERS_MOST], offers, at, many, out);
+        at += many;
         m += 1;
     }
+    at
 }
 
 // The table into the first places of a buffer.
@@ -46,9 +49,10 @@ pub(crate) fn fill(figures: &[i32], offers: usize, shops: usize, treated: usize,
     let d = Design::Unpaired(shops, treated);
     let off = rows::all_taken_off(d, figures, offers);
     rows::first_row(d, figures, offers, out);
+    let mut at: usize = 1;
     let mut p = treated;
     while 0 < p {
         p -= 1;
-        without(figures, &off, offers, shops, treated, p, out);
+        at = without(figures, &off, offers, shops, treated, p, at, out);
     }
 }

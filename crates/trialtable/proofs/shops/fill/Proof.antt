@@ -17,18 +17,21 @@ use Rattle.trialtable.proofs.shops.fill.Statement.{statement}
 use Rattle.trialtable.proofs.shops.fill.Tie as tie
 
 abbrev Inv-loop : tie.InvT-loop
-Inv-loop figures offers shops treated out₀ off p₀ out p =
+Inv-loop figures offers shops treated out₀ off at₀ p₀ out at p =
     (p ≤ treated) × (Fillable (Unpaired shops treated) offers figures (length out)) × (length out ≡ length out₀)
-    × (out ≡ begun (length (choices (shops - p) (treated - p)) * offers) (tableFor (Unpaired shops treated) offers figures) out₀)
+    × (at ≡ length (choices (shops - p) (treated - p))) × (out ≡ begun (at * offers) (tableFor (Unpaired shops treated) offers figures) out₀)
     × (length off ≡ figuresMost) × ((m : ℕ) → Reached (Unpaired shops treated) m → TakenOff (Unpaired shops treated) offers figures off m)
 
 abbrev μ-loop : tie.MeasureT-loop
-μ-loop figures offers shops treated out₀ off p₀ out p = p
+μ-loop figures offers shops treated out₀ off at₀ p₀ out at p = p
 
 -- the rows whose choices have the shops before p are rows of the table
-room : (c : tie.Start Inv-loop μ-loop) (p : ℕ) → p ≤ c .args .treated
-    → length (choices (c .args .shops - p) (c .args .treated - p)) * c .args .offers ≤ length (tableFor (Unpaired (c .args .shops) (c .args .treated)) (c .args .offers) (c .args .figures .now))
-room c p h = let a = c .args in let k = shops-known (a .shops) (a .treated) (c .pre .layout-good) in chosen-room (a .shops) (a .treated) (k .3) (a .offers) (a .figures .now) _ (chosen-most (a .shops) (a .treated) p h (omega (arith, k)))
+room : (c : tie.Start Inv-loop μ-loop) (p at : ℕ) → p ≤ c .args .treated → at ≡ length (choices (c .args .shops - p) (c .args .treated - p))
+    → at * c .args .offers ≤ length (tableFor (Unpaired (c .args .shops) (c .args .treated)) (c .args .offers) (c .args .figures .now))
+room c p at h e =
+    let a = c .args in
+    let k = shops-known (a .shops) (a .treated) (c .pre .layout-good) in
+    chosen-room (a .shops) (a .treated) (k .3) (a .offers) (a .figures .now) at (omega (arith, e, chosen-most (a .shops) (a .treated) p h (omega (arith, k))))
 
 all-taken-off-requires : tie.Need-all-taken-off-requires Inv-loop μ-loop
 all-taken-off-requires c κs = let f = c .before .pre in (f .offers-most, f .layout-good, f .held)
@@ -41,12 +44,13 @@ loop-holds c =
     let a = s .args in
     let T = tableFor (Unpaired (a .shops) (a .treated)) (a .offers) (a .figures .now) in
     let z : a .treated - a .treated ≡ 0 = omega arith in
-    let e : length (choices (a .shops - a .treated) (a .treated - a .treated)) ≡ 1 = ap (λ (t : ℕ). length (choices (a .shops - a .treated) t)) z ∙ no-choice (a .shops - a .treated) in
+    let e : 1 ≡ length (choices (a .shops - a .treated) (a .treated - a .treated)) = sym (ap (λ (t : ℕ). length (choices (a .shops - a .treated) t)) z ∙ no-choice (a .shops - a .treated)) in
     let len : length (o .all-taken-off .result) ≡ figuresMost = search needs in (
       omega arith,
       rw (f .first-row .kept .1 .1 .1 .0) (s .pre),
       refl,
-      rows-begin T (a .offers) _ e (room s (a .treated) (omega arith)) (a .out .now) _ (f .first-row .ensures),
+      e,
+      rows-begin T (a .offers) 1 refl (room s (a .treated) 1 (omega arith) e) (a .out .now) _ (f .first-row .ensures),
       len,
       o .all-taken-off .ensures,
     )
@@ -58,9 +62,14 @@ without-requires c κs =
     let s = t .before .before .before .before .before .before .before .before in
     let a = s .args in
     let T = tableFor (Unpaired (a .shops) (a .treated)) (a .offers) (a .figures .now) in
-    let z : l .p - 1 + 1 ≡ l .p = omega (arith, t .loop-test .taken) in
-    let z-rows = ap (λ (q : ℕ). begun (length (choices (a .shops - q) (a .treated - q)) * a .offers) T (l .out)) (sym z) in
-    (l .inv .1, l .inv .4, l .inv .5, omega (arith, t .loop-test .taken, l .inv .0), rows-held T (a .offers) _ (room s (l .p) (l .inv .0)) _ (l .out) (l .inv .3) ∙ z-rows)
+    let z : l .p - 1 + 1 ≡ l .p = omega (arith, t .loop-test .taken) in (
+      l .inv .1,
+      l .inv .5,
+      l .inv .6,
+      omega (arith, t .loop-test .taken, l .inv .0),
+      l .inv .3 ∙ ap (λ (q : ℕ). length (choices (a .shops - q) (a .treated - q))) (sym z),
+      rows-held T (a .offers) (l .at) (room s (l .p) (l .at) (l .inv .0) (l .inv .3)) _ (l .out) (l .inv .4),
+    )
 
 loop-again : tie.Need-loop-again Inv-loop μ-loop
 loop-again c =
@@ -71,13 +80,15 @@ loop-again c =
     let a = s .args in
     let T = tableFor (Unpaired (a .shops) (a .treated)) (a .offers) (a .figures .now) in
     let k = shops-known (a .shops) (a .treated) (s .pre .layout-good) in
-    let q = w .without .kept .1 .1 .1 .1 .1 .1 .0 in (
+    let rising = chosen-rising (a .shops) (a .treated) (l .p) (t .loop-test .taken) (l .inv .0) (omega (arith, k)) in
+    let q = w .without .kept .1 .1 .1 .1 .1 .1 .1 .0 in (
       omega (arith, l .inv .0),
       rw q (l .inv .1),
       q ∙ l .inv .2,
-      rows-on T (a .offers) _ _ (chosen-rising (a .shops) (a .treated) (l .p) (t .loop-test .taken) (l .inv .0) (omega (arith, k))) (room s (l .p) (l .inv .0)) _ (l .out) _ (l .inv .3) (w .without .ensures),
-      l .inv .4,
+      w .without .ensures .0,
+      rows-on T (a .offers) (l .at) (w .without .result) (omega (arith, l .inv .3, w .without .ensures .0, rising)) (room s (l .p) (l .at) (l .inv .0) (l .inv .3)) _ (l .out) _ (l .inv .4) (w .without .ensures .1),
       l .inv .5,
+      l .inv .6,
     )
 
 returns : tie.Need-returns Inv-loop μ-loop
@@ -91,9 +102,9 @@ returns c =
     let z : l .p ≡ 0 = omega (arith, c .loop-test .left) in
     let n : a .shops - l .p ≡ a .shops = omega arith in
     let m : a .treated - l .p ≡ a .treated = omega arith in
-    let e : length (choices (a .shops - l .p) (a .treated - l .p)) ≡ length (choices (a .shops) (a .treated)) = ap₂ (λ (x y : ℕ). length (choices x y)) n m in
-    rows-all (tableFor (Unpaired (a .shops) (a .treated)) (a .offers) (a .figures .now)) (a .offers) _ (rw e (choices-some (a .shops) (a .treated) (omega (arith, k))))
-    (ap (λ (r : ℕ). r * a .offers) e ∙ sym (tableFor-length (Unpaired (a .shops) (a .treated)) (a .offers) (a .figures .now))) (a .out .now) _ (l .out) (f .first-row .ensures) (l .inv .3)
+    let e : l .at ≡ length (choices (a .shops) (a .treated)) = l .inv .3 ∙ ap₂ (λ (x y : ℕ). length (choices x y)) n m in
+    rows-all (tableFor (Unpaired (a .shops) (a .treated)) (a .offers) (a .figures .now)) (a .offers) (l .at) (omega (arith, e, choices-some (a .shops) (a .treated) (omega (arith, k))))
+    (ap (λ (r : ℕ). r * a .offers) e ∙ sym (tableFor-length (Unpaired (a .shops) (a .treated)) (a .offers) (a .figures .now))) (a .out .now) _ (l .out) (f .first-row .ensures) (l .inv .4)
 
 pub fill-spec : {M : Type 1} → statement M
 fill-spec =
