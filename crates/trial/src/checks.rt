@@ -9,9 +9,10 @@ use limits::DIGITS_MOST;
 use limits::OFFERS_MOST;
 ghost use mathlib.Core.Path.{_≡_};
 ghost use mathlib.Core.Bool.{cond};
-ghost use Prim.Native.Nat.{_≤_};
+ghost use Prim.Native.Nat.{_≤_, _<_};
 ghost use lib.ListN.{length};
 ghost use lib.IntN.{pos};
+ghost use Rattle.limits.specs.Limits.{offersMost};
 ghost use Rattle.refusals.specs.Answers.{placesFrom, firstRefusal};
 ghost use Rattle.trial.specs.Refusals.{badDigits, among, badDifference, headingChecks, earlier, offerChecks, figureChecks, nth};
 
@@ -69,7 +70,26 @@ fn earlier(codes: &[u32], i: usize, code: u32) -> bool
     false
 }
 
-// The refusal of offer i among these labels: 5 before 6. Beyond the last place no digits are printed.
+// Printed digits as a count.
+fn count(digits: u8) -> usize
+    ensures { λ r. ⌜ r ≡ digits ⌝ }
+{
+    digits as usize
+}
+
+// The refusal of offer i among these numbers and digits: 5 before 6.
+fn judged(codes: &[u32], digits: &[u8], i: usize) -> u32
+    requires { ⌜ (i < length (now codes)) × (i < length (now digits)) ⌝ }
+    ensures { λ r. ⌜ r ≡ firstRefusal (offerChecks (nth (now (codes .entry)) 0) (nth (now (digits .entry)) 0) i) ⌝ }
+{
+    let code = codes[i];
+    let misprinted = bad_digits(code, count(digits[i]));
+    let repeated = earlier(codes, i, code);
+    let six = first_of(repeated, 6, 0);
+    first_of(misprinted, 5, six)
+}
+
+// The refusal of offer i among these labels. Beyond the last place no digits are printed.
 pub fn offer_refusal(labels: Labels, i: usize) -> u32
     ensures { λ r. ⌜ r ≡ firstRefusal (offerChecks (nth (labels .codes) 0) (nth (labels .digits) 0) i) ⌝ }
 {
@@ -78,20 +98,19 @@ pub fn offer_refusal(labels: Labels, i: usize) -> u32
     }
     let codes = labels.codes;
     let digits = labels.digits;
-    let code = codes[i];
-    let misprinted = bad_digits(code, digits[i] as usize);
-    let repeated = earlier(&codes, i, code);
-    let six = first_of(repeated, 6, 0);
-    first_of(misprinted, 5, six)
+    judged(&codes, &digits, i)
 }
 
 // The first refusal among n offers.
 pub(crate) fn offers(labels: Labels, n: usize) -> u32
+    requires { ⌜ n ≤ offersMost ⌝ }
     ensures { λ r. ⌜ r ≡ firstRefusal (placesFrom (offerChecks (nth (labels .codes) 0) (nth (labels .digits) 0)) 0 n) ⌝ }
 {
+    let codes = labels.codes;
+    let digits = labels.digits;
     let mut i: usize = 0;
     while i < n {
-        let r = offer_refusal(labels, i);
+        let r = judged(&codes, &digits, i);
         if r != 0 {
             return r;
         }

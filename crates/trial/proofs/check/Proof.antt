@@ -11,6 +11,9 @@ use Rattle.trial.proofs.check.Tie as tie
 returns : tie.Need-returns
 returns c = refusal-heading _ _ (c .before .heading .ensures) (c .if1 .taken)
 
+offers-requires : tie.Need-offers-requires
+offers-requires c κs = let e = c .before in places-held (e .before .before .before .before .args .t) _ (e .before .heading .ensures) (e .if1 .left) .0
+
 returns-2 : tie.Need-returns-2
 returns-2 c = let e = c .before .before .before in refusal-offers _ _ (e .before .heading .ensures) (e .if1 .left) _ (c .before .offers .ensures) (c .if2 .taken)
 
@@ -36,7 +39,7 @@ check-spec =
     (tie.spec
     (λ c κs. search needs)
     returns
-    (λ c κs. search needs)
+    offers-requires
     returns-2
     figure-count-requires
     (λ c. search needs)

@@ -2,6 +2,8 @@
 use mathlib.Core.Path.{_≡_, sym, _∙_}
 use Prim.Native.Nat.{_≤_, _-_}
 use native.Mathlib.Omega.{arith}
+use lib.ListN.{length}
+use Rattle.limits.specs.Limits.{offersMost}
 use Rattle.refusals.specs.Answers.{placesFrom, firstRefusal}
 use Rattle.refusals.proofs.Places.{placesLeft, places-start, place-decides, place-passes, places-end}
 use Rattle.trial.specs.Refusals.{offerChecks, nth}
@@ -10,20 +12,27 @@ use Rattle.trial.proofs.checks.offers.Statement.{statement}
 use Rattle.trial.proofs.checks.offers.Tie as tie
 
 abbrev Inv-loop : tie.InvT-loop
-Inv-loop labels n i₀ i =
-    (i ≤ n) × (firstRefusal (placesFrom (offerChecks (nth (labels .codes) 0) (nth (labels .digits) 0)) 0 n) ≡ firstRefusal (placesLeft (offerChecks (nth (labels .codes) 0) (nth (labels .digits) 0)) n i))
+Inv-loop n codes digits i₀ i = (i ≤ n) × (firstRefusal (placesFrom (offerChecks (nth codes 0) (nth digits 0)) 0 n) ≡ firstRefusal (placesLeft (offerChecks (nth codes 0) (nth digits 0)) n i))
 
 abbrev μ-loop : tie.MeasureT-loop
-μ-loop labels n i₀ i = n - i
+μ-loop n codes digits i₀ i = n - i
 
 loop-holds : tie.Need-loop-holds Inv-loop μ-loop
 loop-holds c = (omega arith, places-start _ _)
 
+judged-requires : tie.Need-judged-requires Inv-loop μ-loop
+judged-requires c κs =
+    let t = c .before .before in
+    let s = t .before .before .before .before in
+    let codes : length (s .args .labels .codes) ≡ offersMost = search needs in
+    let digits : length (s .args .labels .digits) ≡ offersMost = search needs in
+    (omega (arith, s .pre, t .loop-test .taken, codes), omega (arith, s .pre, t .loop-test .taken, digits))
+
 returns : tie.Need-returns Inv-loop μ-loop
-returns c = sym (c .before .before .before .loop .inv .1 ∙ place-decides _ _ _ (c .before .before .loop-test .taken) _ (c .before .offer-refusal .ensures) (c .if1 .taken))
+returns c = let t = c .before .before .before .before in sym (t .before .loop .inv .1 ∙ place-decides _ _ _ (t .loop-test .taken) _ (c .before .judged .ensures) (c .if1 .taken))
 
 loop-again : tie.Need-loop-again Inv-loop μ-loop
-loop-again c = (omega arith, c .before .before .before .loop .inv .1 ∙ place-passes _ _ _ (c .before .before .loop-test .taken) _ (c .before .offer-refusal .ensures) (c .if1 .left))
+loop-again c = let t = c .before .before .before .before in (omega arith, t .before .loop .inv .1 ∙ place-passes _ _ _ (t .loop-test .taken) _ (c .before .judged .ensures) (c .if1 .left))
 
 returns-2 : tie.Need-returns-2 Inv-loop μ-loop
 returns-2 c = sym (c .before .loop .inv .1 ∙ places-end _ _ _ (c .loop-test .left))
@@ -35,7 +44,9 @@ offers-spec =
     Inv-loop
     μ-loop
     loop-holds
-    (λ c κs. search needs)
+    (λ c. search needs)
+    (λ c. search needs)
+    judged-requires
     returns
     (λ c. search needs)
     (λ c. search needs)
