@@ -5,6 +5,7 @@
 --   takenOff d j ys                  what is taken off an offer's entries, in the rows that pair j, or shop j in the place of the one before it, makes
 --   firstStep d, Reached d j         the first j that makes rows; the figures that j takes off are there
 --   TakenOff d offers xs off j       what j takes off each offer's entries stands in an array
+--   AllTaken d offers xs off         the array has that for each j that makes rows
 --   Steps d at rows j                so many rows from `at` on are those straight before them, less what j takes off
 --   lowered n off from at buf        the buffer with n places from `at` on made of those from `from` on, each less its own of `off`
 --   blocked n rows offers off at buf     the buffer with n rows from the row `at` on, each made of the one that stands `rows` rows before it
@@ -14,7 +15,7 @@ use mathlib.Core.List.{List, _++_, map}
 use lib.ListN.{length, getD, take, drop, set}
 use lib.IntN.{ℤ, pos, _+ℤ_, _-ℤ_, _*ℤ_}
 use lib.Ieee.{Float, nan, binary64, ofInt, sub}
-use Rattle.limits.specs.Limits.{offersMost}
+use Rattle.limits.specs.Limits.{offersMost, figuresMost}
 use Rattle.order.specs.Lists.{tabulate, rowsOf, joined}
 use Rattle.refusals.specs.Answers.{firstRefusal}
 use Rattle.trial.specs.Designs.{designChecks, unitsOf, rowCount, entryOf}
@@ -52,6 +53,10 @@ Reached d j = (firstStep d ≤ j) × (j < unitsOf d)
 -- in an array that has a row of `offersMost` places for each j
 abbrev pub TakenOff : Design → ℕ → List ℤ → List Float → ℕ → Type 0
 TakenOff d offers xs off j = (i : ℕ) → i < offers → getD off (offersMost * j + i) nan ≡ ofInt binary64 (takenOff d j (take (unitsOf d) (drop (i * unitsOf d) xs)))
+
+pub record AllTaken (d : Design) (offers : ℕ) (xs : List ℤ) (off : List Float) : Type 0 where
+  pub places : length off ≡ figuresMost
+  pub taken : (j : ℕ) → Reached d j → TakenOff d offers xs off j
 
 pub record Steps (d : Design) (at rows j : ℕ) : Type 0 where
   pub reached : Reached d j

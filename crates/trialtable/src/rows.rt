@@ -12,7 +12,7 @@ ghost use Rattle.limits.specs.Limits.{offersMost, unitsMost, figuresMost, trial
 ghost use Rattle.refusals.specs.Answers.{firstRefusal};
 ghost use Rattle.trial.specs.Choices.{sumOf};
 ghost use Rattle.trial.specs.Designs.{designChecks, unitsOf, entryOf};
-ghost use Rattle.trialtable.specs.Internal.{tableFor, Fillable, begun, takenOff, firstStep, Reached, TakenOff, lowered, blocked};
+ghost use Rattle.trialtable.specs.Internal.{tableFor, Fillable, begun, takenOff, firstStep, Reached, TakenOff, AllTaken, lowered, blocked};
 
 // The contrast of the first shops, which are the treated ones.
 fn first_contrast(figures: &[i32], base: usize, shops: usize, treated: usize) -> f64
@@ -103,7 +103,7 @@ fn first_step(d: Design) -> usize
 // What each j takes off.
 pub(crate) fn all_taken_off(d: Design, figures: &[i32], offers: usize) -> [f64; FIGURES_MOST]
     requires { ⌜ (offers ≤ offersMost) × (firstRefusal (designChecks d) ≡ 0) × (offers * unitsOf d ≤ length (now figures)) ⌝ }
-    ensures { λ r. ⌜ ((j : ℕ) → Reached d j → TakenOff d offers (now (figures .entry)) r j) ⌝ }
+    ensures { λ r. ⌜ AllTaken d offers (now (figures .entry)) r ⌝ }
 {
     let n = trial::units(d);
     let mut off = [0.0f64; FIGURES_MOST];

@@ -5,13 +5,12 @@ use limits::OFFERS_MOST;
 use trial::Design;
 use trial::choice_count;
 ghost use mathlib.Core.Path.{_≡_};
-ghost use Prim.Native.Nat.{ℕ, _+_, _-_, _*_, _<_};
+ghost use Prim.Native.Nat.{_+_, _-_, _*_, _<_};
 ghost use lib.ListN.{length};
-ghost use Rattle.limits.specs.Limits.{figuresMost};
 ghost use Rattle.refusals.specs.Buffers.{written};
 ghost use Rattle.trial.specs.Choices.{choices};
 ghost use Rattle.trial.specs.declared.Design.the-variants.{Unpaired};
-ghost use Rattle.trialtable.specs.Internal.{tableFor, Fillable, begun, Reached, TakenOff};
+ghost use Rattle.trialtable.specs.Internal.{tableFor, Fillable, begun, AllTaken};
 
 // The rows whose choice has the shops before p and not p itself, after the `from` rows that have p too; and how many rows there are then.
 // (`figures` stand in the contract: `off` is made of them.)
@@ -25,7 +24,7 @@ fn without(
     from: usize,
     out: &mut [f64],
 ) -> usize
-    requires { ⌜ (Fillable (Unpaired shops treated) offers (now figures) (length (now out))) × (length (now off) ≡ figuresMost) × ((m : ℕ) → Reached (Unpaired shops treated) m → TakenOff (Unpaired shops treated) offers (now figures) (now off) m) × (p < treated) × (from ≡ length (choices (shops - (p + 1)) (treated - (p + 1)))) × (now out ≡ begun (from * offers) (tableFor (Unpaired shops treated) offers (now figures)) (now out)) ⌝ }
+    requires { ⌜ (Fillable (Unpaired shops treated) offers (now figures) (length (now out))) × (AllTaken (Unpaired shops treated) offers (now figures) (now off)) × (p < treated) × (from ≡ length (choices (shops - (p + 1)) (treated - (p + 1)))) × (now out ≡ begun (from * offers) (tableFor (Unpaired shops treated) offers (now figures)) (now out)) ⌝ }
     ensures { λ r. ⌜ (r ≡ length (choices (shops - p) (treated - p))) × (now (out .exit) ≡ begun (r * offers) (tableFor (Unpaired shops treated) offers (now (figures .entry))) (now (out .entry))) ⌝ }
 {
     let last = shops - treated + p;

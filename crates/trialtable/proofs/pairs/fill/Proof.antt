@@ -7,9 +7,9 @@ use native.Mathlib.Nat.{two-pow-succ}
 use lib.ListN.{length}
 use lib.Pow.{pow-pos}
 use borrow.Author.Needs.{needs}
-use Rattle.limits.specs.Limits.{pairsMost, figuresMost}
+use Rattle.limits.specs.Limits.{pairsMost}
 use Rattle.trial.specs.declared.Design.the-variants.{Paired}
-use Rattle.trialtable.specs.Internal.{tableFor, Fillable, begun, Reached, TakenOff, Steps}
+use Rattle.trialtable.specs.Internal.{tableFor, Fillable, begun, AllTaken, Steps}
 use Rattle.trialtable.proofs.Blocks.{cut-length, cut-taken, block-room, block-rows, extends, rows-held, rows-begin, rows-on, rows-all}
 use Rattle.trialtable.proofs.Doubling.{doubles, pairs-few, shifted, power-room, power-all}
 use Rattle.trialtable.proofs.pairs.fill.Statement.{statement}
@@ -18,7 +18,7 @@ use Rattle.trialtable.proofs.pairs.fill.Tie as tie
 abbrev Inv-loop : tie.InvT-loop
 Inv-loop figures offers pairs out₀ off j₀ out j =
     (j ≤ pairs) × (Fillable (Paired pairs) offers figures (length out)) × (length out ≡ length out₀) × (out ≡ begun (2 ^ j * offers) (tableFor (Paired pairs) offers figures) out₀)
-    × (length off ≡ figuresMost) × ((k : ℕ) → Reached (Paired pairs) k → TakenOff (Paired pairs) offers figures off k)
+    × (AllTaken (Paired pairs) offers figures off)
 
 abbrev μ-loop : tie.MeasureT-loop
 μ-loop figures offers pairs out₀ off j₀ out j = pairs - j
@@ -31,13 +31,11 @@ loop-holds c =
     let f = c .before .before in
     let o = f .before .before in
     let s = o .before .before in
-    let a = s .args in
-    let len : length (o .all-taken-off .result) ≡ figuresMost = search needs in (
+    let a = s .args in (
       omega arith,
       rw (f .first-row .kept .1 .1 .1 .0) (s .pre),
       refl,
       rows-begin (tableFor (Paired (a .pairs)) (a .offers) (a .figures .now)) (a .offers) (2 ^ 0) refl (power-room (a .pairs) (a .offers) (a .figures .now) 0 (omega arith)) (a .out .now) _ (f .first-row .ensures),
-      len,
       o .all-taken-off .ensures,
     )
 
@@ -60,7 +58,7 @@ block-requires c κs =
     let d = Paired (a .pairs) in
     let f = l .inv .1 in
     let s = steps t in
-    let cut = cut-length (t .before .before .before .before .before .before .all-taken-off .result) (l .j) (omega (arith, few t)) (l .inv .4) in
+    let cut = cut-length (t .before .before .before .before .before .before .all-taken-off .result) (l .j) (omega (arith, few t)) (l .inv .4 .places) in
     (omega (arith, cut, f .offers-most), s .before, block-rows d (a .offers) (a .figures .now) _ f _ _ (l .j) s, omega (arith, block-room d (a .offers) (a .figures .now) (l .out) f _ _ (l .j) s, f .room))
 
 loop-again : tie.Need-loop-again Inv-loop μ-loop
@@ -78,13 +76,12 @@ loop-again c =
     let z : (1 * 2 ^ l .j) % 2 ^ 64 + (1 * 2 ^ l .j) % 2 ^ 64 ≡ 2 ^ (l .j + 1) = rw add-one (omega (arith, rows-are t)) in
     let s = steps t in
     let held = rows-held T (a .offers) (2 ^ l .j) room _ (l .out) (l .inv .3) ∙ ap (λ (m : ℕ). begun (m * a .offers) T (l .out)) (sym (rows-are t)) in
-    let more = extends d (a .offers) (a .figures .now) (l .out) f _ _ (l .j) s _ (cut-taken d (a .offers) (a .figures .now) _ (l .j) (f .offers-most) (l .inv .5 (l .j) (s .reached))) (l .out) _ held (e .block .ensures) in (
+    let more = extends d (a .offers) (a .figures .now) (l .out) f _ _ (l .j) s _ (cut-taken d (a .offers) (a .figures .now) _ (l .j) (f .offers-most) (l .inv .4 .taken (l .j) (s .reached))) (l .out) _ held (e .block .ensures) in (
       omega (arith, t .loop-test .taken),
       rw k (l .inv .1),
       k ∙ l .inv .2,
       rows-on T (a .offers) (2 ^ l .j) (2 ^ (l .j + 1)) (omega (arith, z, rows-are t)) room _ (l .out) _ (l .inv .3) (more ∙ ap (λ (m : ℕ). begun (m * a .offers) T (l .out)) z),
       l .inv .4,
-      l .inv .5,
     )
 
 same-length : tie.Need-same-length Inv-loop μ-loop
@@ -112,7 +109,7 @@ fill-spec =
     (λ c. omega (arith, few c))
     (λ c. search needs)
     (λ c. omega (arith, few (c .before)))
-    (λ c. omega (arith, few (c .before), c .before .before .loop .inv .4))
+    (λ c. omega (arith, few (c .before), c .before .before .loop .inv .4 .places))
     block-requires
     (λ c. search needs)
     (λ c. search needs)

@@ -42,7 +42,7 @@ loop-again c =
     )
 
 returns : tie.Need-returns Inv-loop μ-loop
-returns c j r = c .before .loop .inv .6 j (r .0) (omega (arith, c .loop-test .left, c .before .loop .inv .1, r .1))
+returns c = let l = c .before .loop .inv in record { places = l .5; taken = λ j r. l .6 j (r .0) (omega (arith, c .loop-test .left, l .1, r .1)) }
 
 pub all-taken-off-spec : {M : Type 1} → statement M
 all-taken-off-spec =

@@ -4,12 +4,11 @@ use Prim.Native.Nat.{ℕ, _≤_, _-_, _+_, _*_}
 use native.Mathlib.Omega.{arith}
 use lib.ListN.{length}
 use borrow.Author.Needs.{needs}
-use Rattle.limits.specs.Limits.{figuresMost}
 use Rattle.trial.specs.Choices.{choices}
 use Rattle.trial.specs.declared.Design.the-variants.{Unpaired}
 use Rattle.trial.specs.Designs.{rowCount}
 use Rattle.trial.proofs.Choices.{choices-some}
-use Rattle.trialtable.specs.Internal.{tableFor, Fillable, begun, Reached, TakenOff}
+use Rattle.trialtable.specs.Internal.{tableFor, Fillable, begun, AllTaken}
 use Rattle.trialtable.proofs.Blocks.{rows-held, rows-begin, rows-on, rows-all}
 use Rattle.trialtable.proofs.Places.{tableFor-length}
 use Rattle.trialtable.proofs.Chosen.{shops-known, no-choice, chosen-room, chosen-most, chosen-rising}
@@ -20,7 +19,7 @@ abbrev Inv-loop : tie.InvT-loop
 Inv-loop figures offers shops treated out₀ off at₀ p₀ out at p =
     (p ≤ treated) × (Fillable (Unpaired shops treated) offers figures (length out)) × (length out ≡ length out₀)
     × (at ≡ length (choices (shops - p) (treated - p))) × (out ≡ begun (at * offers) (tableFor (Unpaired shops treated) offers figures) out₀)
-    × (length off ≡ figuresMost) × ((m : ℕ) → Reached (Unpaired shops treated) m → TakenOff (Unpaired shops treated) offers figures off m)
+    × (AllTaken (Unpaired shops treated) offers figures off)
 
 abbrev μ-loop : tie.MeasureT-loop
 μ-loop figures offers shops treated out₀ off at₀ p₀ out at p = p
@@ -44,14 +43,12 @@ loop-holds c =
     let a = s .args in
     let T = tableFor (Unpaired (a .shops) (a .treated)) (a .offers) (a .figures .now) in
     let z : a .treated - a .treated ≡ 0 = omega arith in
-    let e : 1 ≡ length (choices (a .shops - a .treated) (a .treated - a .treated)) = sym (ap (λ (t : ℕ). length (choices (a .shops - a .treated) t)) z ∙ no-choice (a .shops - a .treated)) in
-    let len : length (o .all-taken-off .result) ≡ figuresMost = search needs in (
+    let e : 1 ≡ length (choices (a .shops - a .treated) (a .treated - a .treated)) = sym (ap (λ (t : ℕ). length (choices (a .shops - a .treated) t)) z ∙ no-choice (a .shops - a .treated)) in (
       omega arith,
       rw (f .first-row .kept .1 .1 .1 .0) (s .pre),
       refl,
       e,
       rows-begin T (a .offers) 1 refl (room s (a .treated) 1 (omega arith) e) (a .out .now) _ (f .first-row .ensures),
-      len,
       o .all-taken-off .ensures,
     )
 
@@ -65,7 +62,6 @@ without-requires c κs =
     let z : l .p - 1 + 1 ≡ l .p = omega (arith, t .loop-test .taken) in (
       l .inv .1,
       l .inv .5,
-      l .inv .6,
       omega (arith, t .loop-test .taken, l .inv .0),
       l .inv .3 ∙ ap (λ (q : ℕ). length (choices (a .shops - q) (a .treated - q))) (sym z),
       rows-held T (a .offers) (l .at) (room s (l .p) (l .at) (l .inv .0) (l .inv .3)) _ (l .out) (l .inv .4),
@@ -88,7 +84,6 @@ loop-again c =
       w .without .ensures .0,
       rows-on T (a .offers) (l .at) (w .without .result) (omega (arith, l .inv .3, w .without .ensures .0, rising)) (room s (l .p) (l .at) (l .inv .0) (l .inv .3)) _ (l .out) _ (l .inv .4) (w .without .ensures .1),
       l .inv .5,
-      l .inv .6,
     )
 
 returns : tie.Need-returns Inv-loop μ-loop

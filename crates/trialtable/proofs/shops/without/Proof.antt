@@ -22,14 +22,14 @@ abbrev μ-loop : tie.MeasureT-loop
 
 -- the shops, the treated ones, and p
 counts : (c : tie.Start Inv-loop μ-loop) → (2 ≤ c .args .shops) × (c .args .shops ≤ 10) × (1 ≤ c .args .treated) × (c .args .treated < c .args .shops) × (c .args .p < c .args .treated)
-counts c = let k = shops-known (c .args .shops) (c .args .treated) (c .pre .0 .layout-good) in (k .0, k .1, k .2, k .3, c .pre .3)
+counts c = let k = shops-known (c .args .shops) (c .args .treated) (c .pre .0 .layout-good) in (k .0, k .1, k .2, k .3, c .pre .2)
 
 loop-holds : tie.Need-loop-holds Inv-loop μ-loop
 loop-holds c =
     let s = c .before .before in
     let a = s .args in
     let k = counts s in
-    (omega arith, omega (arith, k), s .pre .0, refl, s .pre .4 ∙ sym (at-first (a .shops) (a .treated) (a .p) (k .4) (omega (arith, k))), s .pre .5)
+    (omega arith, omega (arith, k), s .pre .0, refl, s .pre .3 ∙ sym (at-first (a .shops) (a .treated) (a .p) (k .4) (omega (arith, k))), s .pre .4)
 
 -- what is known in the loop: shop m comes after p, and enough shops come after it
 turn : (c : tie.In-loop Inv-loop μ-loop) → let a = c .before .before .before .before .args in let m = c .before .loop .m in
@@ -60,7 +60,7 @@ block-requires c κs =
     let d = Unpaired (a .shops) (a .treated) in
     let f = l .inv .2 in
     let b = steps n in
-    let cut = cut-length (a .off .now) (l .m) (omega (arith, turn (n .before))) (s .pre .1) in
+    let cut = cut-length (a .off .now) (l .m) (omega (arith, turn (n .before))) (s .pre .1 .places) in
     (omega (arith, cut, f .offers-most), b .before, block-rows d (a .offers) (a .figures .now) _ f _ _ (l .m) b, omega (arith, block-room d (a .offers) (a .figures .now) (l .out) f _ _ (l .m) b, f .room))
 
 -- the rows are rows of the table
@@ -87,7 +87,7 @@ loop-again c =
     let q = x .block .kept .1 .1 .1 .1 .0 in
     let room = chosen-room (a .shops) (a .treated) (k .5) (a .offers) (a .figures .now) (l .at) (omega (arith, b, l .inv .4)) in
     let g = steps o in
-    let taken = cut-taken d (a .offers) (a .figures .now) (a .off .now) (l .m) (f .offers-most) (s .pre .2 (l .m) (g .reached)) in
+    let taken = cut-taken d (a .offers) (a .figures .now) (a .off .now) (l .m) (f .offers-most) (s .pre .1 .taken (l .m) (g .reached)) in
     let more = extends d (a .offers) (a .figures .now) (l .out) f _ _ (l .m) g _ taken (l .out) _ (rows-held T (a .offers) (l .at) room _ (l .out) (l .inv .5)) (x .block .ensures) in (
       omega (arith, l .inv .0),
       omega (arith, t .loop-test .taken),
@@ -125,7 +125,7 @@ without-spec =
     (λ c. omega (arith, turn (c .before)))
     (λ c. search needs)
     (λ c. omega (arith, turn (c .before)))
-    (λ c. omega (arith, turn (c .before), c .before .before .before .before .before .pre .1))
+    (λ c. omega (arith, turn (c .before), c .before .before .before .before .before .pre .1 .places))
     block-requires
     add-at
     (λ c. search needs)
