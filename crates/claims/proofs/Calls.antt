@@ -4,7 +4,7 @@
 --   ..-told          the paper's number and values for each case of an answer
 --   ..-number        the number that an answer holds is that of the first condition that holds
 --   ..-accepted      what an accepted call hands out
-use Prim.Native.Nat.{ℕ, _+_, _-_, _*_, _<_}
+use Prim.Native.Nat.{ℕ, _+_, _*_, _<_}
 use mathlib.Core.Path.{_≡_, refl}
 use mathlib.Core.Bool.{true, false, not, _||_}
 use mathlib.Core.List.{List, [], _∷_, _++_}

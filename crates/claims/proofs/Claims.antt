@@ -627,6 +627,6 @@ module _ (t : Trial) (shops treated : ℕ) (laid : t .shape .design ≡ Unpaired
   unfolding chosenFirst
   shops-balanced-trials = in-shops-of.shops-balanced-answered t shops treated laid idle runs sized ok oks keeps named places work room rows
 
--- a trial of 4 shops with 2 treated, worked by hand (trial/specs/Examples.antt); 2 shops with 1 treated; 10 with 5 and with 9
+-- the entries of a trial of 4 shops with 2 treated, as worked by hand (trial/specs/Examples.antt); and how many rows it has, 2 shops with 1 treated, and 10 with 5 and with 9
 pub shops-examples : (tabulate (rowTotal trialShops) (λ g. map (entryOf (Unpaired 4 2) g) (byOffer trialShops)) ≡ sumsShops) × (map rowTotal (trialShops ∷ twoShops ∷ tenShops 5 ∷ tenShops 9 ∷ []) ≡ 6 ∷ 2 ∷ 252 ∷ 10 ∷ [])
 shops-examples = (shop-examples.shops-sums, shop-examples.ten-shops .2)

@@ -1,4 +1,4 @@
--- Where run g of a trial finds its rows, by how the trial was laid out: nothing else of the theorem knows the cases.
+-- Where run g of a trial finds its rows, by how the trial was laid out: of this crate only Shops, which words the theorem for one case, knows the cases too.
 --   moved d h g                          the row of the trial that is row h of run g
 --   moved-from d i g                     the row of run g that is row i of the trial
 --   moved-lt, moved-from-lt, moved-back  they are rows, and the one undoes the other

@@ -1,6 +1,5 @@
 -- Demand 3 in the words of document 02, §6: over all C choices named as treated, idle figures staying with their shops, at most floor(C × a/b) runs reject k or more
 -- idle offers.
---   rows-chosen                              a trial of shops has a row for each choice
 --   shops-answered, shops-balanced-answered  the theorem, plain and balanced; its hypothesis `named`: run g lists the shops of choice g first
 use Prim.Native.Nat.{ℕ, _*_, _≤_, _<_}
 use native.Mathlib.Omega.{arith}
@@ -24,7 +23,7 @@ use Rattle.control.specs.Statements.{runsThatReject, ListedOn}
 use Rattle.control.proofs.Answered.{trials-answered, balanced-trials-answered}
 
 module _ (t : Trial) (shops treated : ℕ) (laid : t .shape .design ≡ Unpaired shops treated) where
-  pub rows-chosen : rowTotal t ≡ length (choices shops treated)
+  rows-chosen : rowTotal t ≡ length (choices shops treated)
   unfolding rowTotal rowCount
   rows-chosen = ap rowCount laid
 

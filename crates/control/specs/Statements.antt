@@ -4,7 +4,8 @@
 --   entry t columns h j        the value of a table t in row h and column j
 --   SameOn idle rows columns t u      two tables agree in all their idle columns, as numbers
 --   ListedOn idle g t u        u's idle offers have the figures that run g of t lists (`listed`, trial/specs/Designs): in a paired trial each difference
---                              with its sign changed where its bit of g is 1. That all else is kept is `Keeps` (trial/specs/Record)
+--                              with its sign changed where its bit of g is 1, of shops without partners the figures of the shops of choice g first.
+--                              That all else is kept is `Keeps` (trial/specs/Record)
 use Prim.Native.Nat.{ℕ, _+_, _*_, _<_}
 use mathlib.Core.Path.{_≡_}
 use mathlib.Core.Bool.{Bool, _&&_}

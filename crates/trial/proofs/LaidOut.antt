@@ -2,6 +2,7 @@
 --   shops-inside                     the counts of an accepted layout of shops
 --   LaidOut, laid-out                what an accepted layout is known to be
 --   units-pairs, units-shops         the figures of an offer
+--   layout-known                     an accepted layout whose case is known
 --   rows-shift, rows-chosen          M as a shift, and as the number of choices
 --   count-at                         the table of the numbers of choices
 --   shops-outside, pairs-judged, shops-judged     the code's test of a layout
@@ -73,17 +74,21 @@ pub units-shops : (d : Design) {n t : ℕ} → d ≡ Unpaired n t → n ≡ unit
 unfolding unitsOf
 units-shops d e = ap unitsOf (sym e)
 
+-- an accepted layout whose case is known
+pub layout-known : (d e : Design) → d ≡ e → firstRefusal (designChecks d) ≡ 0 → NoneHolds (designChecks e)
+layout-known d e q h = none-holds (designChecks e) (ap (λ (x : Design). firstRefusal (designChecks x)) (sym q) ∙ h)
+
 -- M
 pub rows-shift : (d : Design) (n : ℕ) → d ≡ Paired n → firstRefusal (designChecks d) ≡ 0 → (n < 64) × ((1 * 2 ^ n) % 2 ^ 64 ≡ rowCount d)
 unfolding designChecks rowCount
 rows-shift d n e h =
-    let i = inside 1 pairsMost n (none-holds (designChecks (Paired n)) (ap (λ (x : Design). firstRefusal (designChecks x)) (sym e) ∙ h) .0) in
+    let i = inside 1 pairsMost n (layout-known d (Paired n) e h .0) in
     (omega arith, shl-exact 1 n 64 (omega arith) (omega arith) ∙ one-mul (2 ^ n) ∙ ap rowCount (sym e))
 
 pub rows-chosen : (d : Design) (n t : ℕ) → d ≡ Unpaired n t → firstRefusal (designChecks d) ≡ 0 → (n ≤ shopsMost) × (t ≤ shopsMost) × ((m : ℕ) → m ≡ length (choices n t) → m ≡ rowCount d)
 unfolding rowCount
 rows-chosen d n t e h =
-    let i = shops-inside n t (none-holds (designChecks (Unpaired n t)) (ap (λ (x : Design). firstRefusal (designChecks x)) (sym e) ∙ h)) in
+    let i = shops-inside n t (layout-known d (Unpaired n t) e h) in
     (i .1, omega arith, λ m q. q ∙ ap rowCount (sym e))
 
 -- the table of the numbers of choices

@@ -38,7 +38,7 @@ abs-neg (pos zero) = refl
 abs-neg (pos (suc n)) = refl
 abs-neg (negsuc n) = refl
 
-pub abs-exchanged : (b : Bool) (d : ℤ) → natAbs (exchanged b d) ≡ natAbs d
+abs-exchanged : (b : Bool) (d : ℤ) → natAbs (exchanged b d) ≡ natAbs d
 abs-exchanged true d = abs-neg d
 abs-exchanged false d = refl
 

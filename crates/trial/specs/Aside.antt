@@ -1,4 +1,4 @@
--- Offers that are set aside (document 02, §4). Definitions only.
+-- Offers that are set aside (document 02, §4 and §6). Definitions only.
 --   liveOffers t     which offers take part: those that have been tested
 --   liveMask t       the same as a mask: bit i says that offer i (from 0) takes part
 use Prim.Native.Nat.{ℕ}

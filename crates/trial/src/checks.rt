@@ -1,4 +1,4 @@
-// The conditions of refusals 4 to 7, in the words of specs/Refusals.
+// The conditions of refusals 3 to 7, in the words of specs/Refusals; that of 15 is in designs.
 use crate::Labels;
 use crate::Level;
 use crate::Shape;

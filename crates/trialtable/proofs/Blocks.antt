@@ -161,21 +161,18 @@ pub block-places : (offers at rows h : ℕ) → rows ≤ at → h < rows
 block-places offers at rows h k l =
     (part-rows (at + h) offers (at + h - rows) (omega arith), part-rows (at + rows) offers (at + h) (omega arith))
 
-module _ (d : Design) (offers : ℕ) (xs : List ℤ) (buf : List Float) (ok : Fillable d offers xs (length buf)) (at rows j : ℕ) (s : Steps d at rows j) where
-  pub block-room : (at + rows) * offers ≤ rowCount d * offers
-  block-room = mul-le-mul-right offers (s .inside)
+pub block-room : (d : Design) (offers at rows j : ℕ) → Steps d at rows j → (at + rows) * offers ≤ rowCount d * offers
+block-room d offers at rows j s = mul-le-mul-right offers (s .inside)
 
 module _ (d : Design) (offers : ℕ) (xs : List ℤ) (buf : List Float) (ok : Fillable d offers xs (length buf)) (at rows j : ℕ) (s : Steps d at rows j) (off : List Float)
     (taken : (i : ℕ) → i < offers → getD off i nan ≡ ofInt binary64 (takenOff d j (take (unitsOf d) (drop (i * unitsOf d) xs)))) where
-  room : (at + rows) * offers ≤ rowCount d * offers
-  room = block-room d offers xs buf ok at rows j s
-
   rows-more : (h : ℕ) → h ≤ rows → blocked h rows offers off at (begun (at * offers) (tableFor d offers xs) buf) ≡ begun ((at + h) * offers) (tableFor d offers xs) buf
   unfolding blocked
   rows-more zero k = let z : at * offers ≡ (at + 0) * offers = ap (λ (m : ℕ). m * offers) (omega arith) in ap (λ (p : ℕ). begun p (tableFor d offers xs) buf) z
   rows-more (suc h) k =
       let p = block-places offers at rows h (s .before) (omega arith) in
       let m = tableFor-length d offers xs in
+      let room = block-room d offers at rows j s in
       let z : (at + h) * offers + offers ≡ (at + suc h) * offers = omega (arith, add-mul at h offers, add-mul at (suc h) offers, add-mul h 1 offers, one-mul offers) in
       ap (lowered offers off ((at + h - rows) * offers) ((at + h) * offers)) (rows-more h (omega arith))
       ∙ lowered-begun offers off (tableFor d offers xs) buf ((at + h - rows) * offers) ((at + h) * offers) (p .0) (omega (arith, room)) (omega (arith, room, ok .room))

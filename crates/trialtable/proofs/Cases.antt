@@ -17,14 +17,13 @@ use mir.Val.{toZ, ofZ}
 use mir.Facts.{toZ-ofZ}
 use Rattle.limits.specs.Limits.{unitsMost}
 use Rattle.refusals.specs.Answers.{firstRefusal}
-use Rattle.refusals.proofs.Answers.{NoneHolds, none-holds}
 use Rattle.trial.specs.Choices.{sumOf}
 use Rattle.trial.specs.Designs.{designChecks, unitsOf, entryOf}
 use Rattle.trial.specs.Internal.{Ranged}
 use Rattle.trial.specs.declared.Design.{Design}
 use Rattle.trial.specs.declared.Design.the-variants.{Paired, Unpaired}
 use Rattle.trial.proofs.Contrasts.{abs-times}
-use Rattle.trial.proofs.LaidOut.{laid-out, shops-inside}
+use Rattle.trial.proofs.LaidOut.{laid-out, layout-known, shops-inside}
 use Rattle.trial.proofs.Sums.{abs-add, abs-neg}
 use Rattle.trial.proofs.Tables.{drop-take}
 use Rattle.trialtable.specs.Internal.{takenOff, firstStep, Reached}
@@ -35,9 +34,6 @@ module _ (d : Design) (good : firstRefusal (designChecks d) ≡ 0) (xs : List �
   -- the offer's figures
   abbrev ys : List ℤ
   ys = take (unitsOf d) (drop base xs)
-
-  known : (e : Design) → d ≡ e → NoneHolds (designChecks e)
-  known e q = none-holds (designChecks e) (ap (λ (x : Design). firstRefusal (designChecks x)) (sym q) ∙ good)
 
   ys-at : (j : ℕ) → j < unitsOf d → getD ys j (pos 0) ≡ getD xs (base + j) (pos 0)
   ys-at j h = getD-take (unitsOf d) (drop base xs) j (pos 0) h ∙ getD-drop base xs j (pos 0)
@@ -58,7 +54,7 @@ module _ (d : Design) (good : firstRefusal (designChecks d) ≡ 0) (xs : List �
     unfolding entryOf unitsOf
     first-pairs = (
       omega (arith, units),
-      laid-out (Paired n) (known (Paired n) q) .units-most,
+      laid-out (Paired n) (layout-known d (Paired n) q good) .units-most,
       sum-plain (take n (drop base xs)) ∙ ap₂ (λ (e : Design) (m : ℕ). entryOf e 0 (take m (drop base xs))) (sym q) (sym units),
     )
 
@@ -74,7 +70,7 @@ module _ (d : Design) (good : firstRefusal (designChecks d) ≡ 0) (xs : List �
     shops = ap unitsOf q
 
     inside : (2 ≤ n) × (n ≤ unitsMost) × (1 ≤ t) × (t < n)
-    inside = shops-inside n t (known (Unpaired n t) q)
+    inside = shops-inside n t (layout-known d (Unpaired n t) q good)
 
     pub first-shops : (base + n ≤ length xs) × (n ≤ unitsMost) × (t ≤ n)
         × (pos (n - t) *ℤ sumOf (take t (drop base xs)) -ℤ pos t *ℤ sumOf (take (n - t) (drop (base + t) xs)) ≡ entryOf d 0 ys)

@@ -48,7 +48,7 @@ more-chosen (suc p) n t =
     let f : suc p + t ≡ suc (p + t) = omega arith in
     rw (e, f) (omega (arith, choices-more (p + n) (p + t), more-chosen p n t))
 
--- the same, at the numbers of a block
+-- the choices with shop m next and those without it, at the numbers of a block
 both-at : (n t p m : ℕ) → p < t → m < n → rows (n - m) (t - p) ≡ blockRows n t p m + rows (n - (m + 1)) (t - p)
 both-at n t p m h k =
     let e : n - m ≡ suc (n - m - 1) = omega arith in

@@ -12,13 +12,13 @@ use lib.Dec.{T, eqb}
 use borrow.Author.Tests.{eq-eqb, ne-eqb, eqb-true}
 use Rattle.limits.specs.Limits.{offersMost, pairsMost, shopsMost, unitsMost, toleranceMost}
 use Rattle.refusals.specs.Answers.{firstRefusal}
-use Rattle.refusals.proofs.Answers.{NoneHolds, none-holds}
+use Rattle.refusals.proofs.Answers.{NoneHolds}
 use Rattle.refusals.proofs.Limits.{inside}
 use Rattle.trial.specs.Designs.{designChecks}
 use Rattle.trial.specs.declared.Design.{Design}
 use Rattle.trial.specs.declared.Design.the-variants.{Paired, Unpaired}
 use Rattle.trial.specs.declared.Shape.{Shape}
-use Rattle.trial.proofs.LaidOut.{shops-inside}
+use Rattle.trial.proofs.LaidOut.{layout-known, shops-inside}
 use Rattle.words.specs.Words.{kindOf, unusedOf, kOf, offersOf, pairsOf, shopsK, shopsOffers, shopCount, treatedOf, pairedIn, unpairedIn, noShape, spareOf, shapeIn, pairedWord, unpairedWord, shapeWordOf}
 
 -- ---- by the kind, as the code finds it
@@ -109,16 +109,13 @@ module _ (k n : ℕ) (hk : k ≤ toleranceMost) (hn : n ≤ offersMost) where
 -- ---- the code that makes a shape word
 
 module _ (d : Design) where
-  known : (e : Design) → d ≡ e → firstRefusal (designChecks d) ≡ 0 → NoneHolds (designChecks e)
-  known e q h = none-holds (designChecks e) (ap (λ (x : Design). firstRefusal (designChecks x)) (sym q) ∙ h)
-
   pub pairs-made : (p : ℕ) → d ≡ Paired p → firstRefusal (designChecks d) ≡ 0 → (p ≤ unitsMost) × ((k n : ℕ) → pairedWord k n p ≡ shapeWordOf k n d)
   unfolding shapeWordOf designChecks
-  pairs-made p q h = let i = inside 1 pairsMost p (known (Paired p) q h .0) in (omega arith, λ k n. ap (shapeWordOf k n) (sym q))
+  pairs-made p q h = let i = inside 1 pairsMost p (layout-known d (Paired p) q h .0) in (omega arith, λ k n. ap (shapeWordOf k n) (sym q))
 
   pub shops-made : (s t : ℕ) → d ≡ Unpaired s t → firstRefusal (designChecks d) ≡ 0 → (s ≤ unitsMost) × (t ≤ unitsMost) × ((k n : ℕ) → unpairedWord k n s t ≡ shapeWordOf k n d)
   unfolding shapeWordOf
-  shops-made s t q h = let i = shops-inside s t (known (Unpaired s t) q h) in (i .1, omega arith, λ k n. ap (shapeWordOf k n) (sym q))
+  shops-made s t q h = let i = shops-inside s t (layout-known d (Unpaired s t) q h) in (i .1, omega arith, λ k n. ap (shapeWordOf k n) (sym q))
 
 -- ---- a word made of the shape that is read
 

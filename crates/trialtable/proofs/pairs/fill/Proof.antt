@@ -59,7 +59,7 @@ block-requires c κs =
     let f = l .inv .1 in
     let s = steps t in
     let cut = cut-length (t .before .before .before .before .before .before .all-taken-off .result) (l .j) (omega (arith, few t)) (l .inv .4 .places) in
-    (omega (arith, cut, f .offers-most), s .before, block-rows d (a .offers) (a .figures .now) _ f _ _ (l .j) s, omega (arith, block-room d (a .offers) (a .figures .now) (l .out) f _ _ (l .j) s, f .room))
+    (omega (arith, cut, f .offers-most), s .before, block-rows d (a .offers) (a .figures .now) _ f _ _ (l .j) s, omega (arith, block-room d (a .offers) _ _ (l .j) s, f .room))
 
 loop-again : tie.Need-loop-again Inv-loop μ-loop
 loop-again c =

@@ -61,7 +61,7 @@ block-requires c κs =
     let f = l .inv .2 in
     let b = steps n in
     let cut = cut-length (a .off .now) (l .m) (omega (arith, turn (n .before))) (s .pre .1 .places) in
-    (omega (arith, cut, f .offers-most), b .before, block-rows d (a .offers) (a .figures .now) _ f _ _ (l .m) b, omega (arith, block-room d (a .offers) (a .figures .now) (l .out) f _ _ (l .m) b, f .room))
+    (omega (arith, cut, f .offers-most), b .before, block-rows d (a .offers) (a .figures .now) _ f _ _ (l .m) b, omega (arith, block-room d (a .offers) _ _ (l .m) b, f .room))
 
 -- the rows are rows of the table
 add-at : tie.Need-add-at Inv-loop μ-loop
