@@ -1,5 +1,5 @@
 // The table of shops without partners. Shops count from 0. The rows whose choice has the shops before p, none from p to m - 1, and m, stand straight
-// after as many rows that have m - 1 in the place of m: so each entry is one of these rows' less so many times the figure of m - 1 less that of m.
+// after as many rows that have m - 1 in the place of m: so each entry is the earlier one less shops × (the figure of m - 1 less that of m).
 use super::rows;
 use limits::OFFERS_MOST;
 use trial::Design;
