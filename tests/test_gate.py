@@ -118,6 +118,19 @@ echo 'rt: ok, 3 crates proved'""")
                 self.assertEqual(making.communicate(), (text, f"{program} proved (7 s)\n"))
                 self.assertEqual(making.returncode, 0)
 
+    def test_lesson(self):
+        """Both programs are proved before the page is made, and the page is not made where one is not."""
+        self.program("bin/rt", 'echo "rt: $2 proved (7 s)"')
+        self.program("bin/python3", "echo $*")
+        with self.make("lesson") as making:
+            self.assertEqual(making.communicate(), ("tools/lesson.py -o target/lesson/index.html\n",
+                                                    "report proved (7 s)\nvectors proved (7 s)\n"))
+            self.assertEqual(making.returncode, 0)
+        self.program("bin/rt", "test $2 = report")
+        with self.make("lesson") as making:
+            self.assertEqual(making.communicate()[0], "")
+            self.assertNotEqual(making.returncode, 0)
+
 
 if __name__ == "__main__":
     unittest.main()

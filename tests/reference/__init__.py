@@ -17,6 +17,7 @@ report.py     the text of the report program
 sheet.py      the text of the program `adjusted`
 view.py       a place of a view of lent values
 ccall.py      the calls for C
+slips.py      the reference with a slip switched on, for the page to teach with
 
 A refusal is a result like any other: `Refused(number)` is returned, never raised.
 Lent buffers are mutable lists (f64) or bytearrays; a refused call leaves them
