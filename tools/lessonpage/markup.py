@@ -4,6 +4,8 @@ from html import escape
 
 VOID = {"meta", "link", "input", "br", "img"}
 DRAWN = {"circle", "line", "path", "rect"}  # SVG closes them in themselves
+BLOCKS = {"caption", "div", "fieldset", "figcaption", "figure", "footer", "h1", "h2", "h3", "h4", "h5", "head", "header", "li", "main",
+          "nav", "ol", "p", "pre", "section", "style", "svg", "table", "tbody", "thead", "tr", "ul"}  # a line ends after each
 
 
 class Markup(str):
@@ -25,7 +27,8 @@ def el(tag: str, *parts, **attributes) -> Markup:
                     for name, value in attributes.items() if value is not None)
     if tag in VOID | DRAWN:
         return Markup(f"<{tag}{named}/>")
-    return Markup(f"<{tag}{named}>{inside(parts)}</{tag}>")
+    end = "\n" if tag in BLOCKS else ""
+    return Markup(f"<{tag}{named}>{inside(parts)}</{tag}>{end}")
 
 
 def shown(value) -> str:

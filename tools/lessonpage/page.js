@@ -37,7 +37,7 @@ document.querySelectorAll(".lists").forEach(function (lists) {
   }
 
   function turnOver() {
-    const mark = drawn.querySelector(".mark").textContent || "no idle offer is on it";
+    const idle = drawn.querySelector(".mark"), mark = idle ? idle.textContent : "no idle offer is on it";
     const kind = drawn.classList.contains("marked") ? "Marked" : "Not marked";
     hand.textContent = "Your list: " + drawn.querySelector(".names").textContent + ". " + kind + ": " + mark
       + " (" + drawn.querySelector(".way").textContent + "). " + drawn.closest(".panel").querySelector("h4").textContent

@@ -89,8 +89,8 @@ def card(lists: Lists, idle, g: int, named) -> Markup:
     marked = wrong >= lists.trial.k
     names = [el("span", lists.trial.codes[i], class_="idle" if i in idle else None) for i in named]
     parts = [el("span", way_of(lists, g), class_="way"), " ",
-             el("span", joined(names) if names else "nobody", class_="names"), " ",
-             el("span", f"{'✗ ' if marked else ''}{wrong} idle" if wrong else "", class_="mark")]
+             el("span", joined(names) if names else "nobody", class_="names"),
+             [" ", el("span", f"{'✗ ' if marked else ''}{wrong} idle", class_="mark")] if wrong else None]
     return el("li", parts, class_="card marked" if marked else "card", data_is=f"{lists.name} list {key(idle) or '-'} {g}")
 
 
