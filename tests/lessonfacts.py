@@ -17,7 +17,7 @@ from reference.table import Aside, Rejected
 
 
 def listing(codes) -> str:
-    return ", ".join(codes) or "nobody"
+    return ", ".join(codes) or "no offer"
 
 
 def number(value: float) -> str:
@@ -48,6 +48,10 @@ class Judged:
     def e(self):
         return method.level_rows(len(self.columns[0]), *self.levels)
 
+    def bar_place(self):
+        """Which of the smallest k-max values is the critical one."""
+        return self.rows() - self.e()
+
     def k(self):
         return self.tolerance
 
@@ -70,7 +74,10 @@ class Judged:
         return listing(self.codes_of[i] for i in self.rejected)
 
     def step_line(self, s):
-        return f"step {s}: critical value {number(self.run.records[s - 1].critical_value)}"
+        return f"step {s}: critical value {self.bar(s)}"
+
+    def bar(self, s):
+        return number(self.run.records[s - 1].critical_value)
 
     def verdict(self, i):
         verdict = self.run.verdicts[i]
@@ -100,7 +107,7 @@ class OfTable(Judged):
         self.levels, (self.tolerance,), (self.observed,) = found["level"], found["k"], found["observed"]
         self.values = [float(word) for words in lines[3:] for word in words[1:]]
         self.columns = method.columns_of(self.values, len(lines[3]) - 1)
-        self.codes_of = [str(i + 1) for i in range(len(self.columns))]
+        self.codes_of = [f"offer {i + 1}" for i in range(len(self.columns))]
 
     def full_run(self):
         return table.full_run(self.values, self.rows(), self.offers(), self.tolerance, *self.levels, self.observed)
@@ -192,8 +199,8 @@ class OfTrial(Judged):
         for i in range(self.trial.offers):
             own = trial.offer_figures(self.trial, i)
             figures += design.listed(own, g) if i in idle else own
-        run = trial.full_run(replace(self.trial, figures=trial.padded(figures, trial.FIGURE_PLACES)))
-        return tuple(i for i, verdict in enumerate(run.verdicts) if isinstance(verdict, Rejected))
+        made = replace(self.trial, figures=trial.padded(figures, trial.FIGURE_PLACES))
+        return tuple(OfTrial(trialfile.write(made), self.slipped).rejected)
 
     def wrong_names(self, key: str, g: int) -> int:
         return len(set(self.list_of(key, g)) & set(self.offers_in(key)))
@@ -214,14 +221,14 @@ class OfTrial(Judged):
 
 
 class OfStep:
-    """A step of a run, over one of its sets."""
+    """A step of a run, over one of its sets; set 0 has nothing put back."""
 
     def __init__(self, judged: Judged, step: int, place=None):
         self.judged, self.step = judged, step
         rejected = {i for i in judged.rejected if judged.run.verdicts[i].step < step}
         self.left = [i for i in range(judged.offers()) if i not in rejected]
         sets = list(combinations(sorted(rejected), judged.tolerance - 1)) if rejected else [()]
-        self.put_back = sets[(place or 1) - 1]
+        self.put_back = () if place == 0 else sets[(place or 1) - 1]
         self.of_set = place is not None or len(sets) == 1
         rows = zip(*(judged.columns[i] for i in sorted([*self.left, *self.put_back])))
         self.values = [method.k_max(row, judged.tolerance) for row in rows]
@@ -253,6 +260,9 @@ class OfStep:
 
     def dot(self, g):
         return f"row {g}: {number(self.values[g])}"
+
+    def in_order(self):
+        return ", ".join(map(number, sorted(self.values)))
 
     def place(self, n):
         return range(1, self.judged.rows() + 1)[n - 1]
@@ -291,6 +301,8 @@ class Facts:
             return self.title
         if words[0] in ("chapter", "pair", "shop"):
             return str(int(words[1]))
+        if words[-1] == "drawing":
+            return f"Dots on a line: {' '.join(words[:-1])}"
         about = 1 if words[1] not in ("slip", "step") else 5 if words[3] == "set" else 3
         subject = self.subject(tuple(words[:about]))
         given = [word if words[about] in ("list", "codes", "marked") and n == 0 else int(word)

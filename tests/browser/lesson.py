@@ -73,10 +73,18 @@ class Ticking(Opened):
     def tick(self, trial: str, position: int):
         self.browser.click(f"{self.lists(trial)} input[value='{position}']")
 
+    def ticked(self, trial: str) -> set:
+        return set(map(int, self.browser.run("return Array.from(document.querySelectorAll(arguments[0])).map(e => e.value)",
+                                             f"{self.lists(trial)} input:checked")))
+
+    def test_begun(self):
+        """At first the offers are ticked that the printed list does not name, or all where these are fewer than k."""
+        self.assertEqual([self.ticked(trial) for trial in TRIALS], [{2}, {2, 3, 4}, {1, 2, 3, 4}, {2, 3}])
+
     def test_every_set(self):
         """Ticked in every way, one box after the other: the lists and the count of that set are seen, and no others."""
         for trial in TRIALS:
-            subject, ticked = FACTS.subject((trial,)), set()
+            subject, ticked = FACTS.subject((trial,)), self.ticked(trial)
             for number in range(2 ** subject.offers()):
                 for position in range(1, subject.offers() + 1):
                     if (position in ticked) != bool(number >> position - 1 & 1):
@@ -97,20 +105,37 @@ class Drawing(Opened):
         self.browser.click(f"{self.lists(trial)} .{name}")
 
     def test_cover(self):
-        """The lists are covered, and who is called idle; those of other trials are not."""
-        told = """return Array.from(document.querySelectorAll(`[data-trial='${arguments[0]}'] :is(fieldset, .panel:not([hidden]) h4)`))
+        """The lists are covered, who is called idle and how many are marked; those of other trials are not."""
+        told = """return Array.from(document.querySelectorAll(
+            `[data-trial='${arguments[0]}'] :is(fieldset, .panel:not([hidden]) > :is(.who, p))`))
             .filter(e => getComputedStyle(e).visibility === 'visible').length"""
         self.press("cover")
         self.assertEqual((self.seen("market.trial"), self.browser.run(told, "market.trial")), ([], 0))
-        self.assertEqual((len(self.seen("w.trial")), self.browser.run(told, "w.trial")), (8, 2))
+        self.assertEqual((len(self.seen("w.trial")), self.browser.run(told, "w.trial")), (8, 3))
         self.press("cover")
-        self.assertEqual((len(self.seen("market.trial")), self.browser.run(told, "market.trial")), (32, 2))
+        self.assertEqual((len(self.seen("market.trial")), self.browser.run(told, "market.trial")), (32, 3))
+
+    def test_a_short_list_tells(self):
+        """With every offer idle most lists name no offer; such a list could not be marked, and that is said."""
+        self.browser.click(f"{self.lists('market.trial')} input[value='1']")
+        turned = set()
+        for _ in range(20):
+            self.press("draw")
+            self.press("turn")
+            turned.add(self.hand("market.trial"))
+        short = [text for text in turned if text.startswith("Your list: no offer. Not marked: no idle offer is on it (")]
+        self.assertTrue(short)
+        self.assertTrue(all(text.endswith("With so few names it could not be marked.") for text in short))
+
+    def test_covered_lists_look_alike(self):
+        self.press("cover")
+        sizes = self.browser.run("return Array.from(document.querySelectorAll(arguments[0])).map(e => e.offsetHeight)",
+                                 f"{self.lists('market.trial')} .panel:not([hidden]) .card")
+        self.assertEqual((len(sizes), len(set(sizes))), (32, 1))
 
     def test_draw(self):
         """Names alone until the list is turned over; then what it is. The others stay covered."""
         subject = FACTS.subject(("market.trial",))
-        for position in (2, 3, 4):
-            self.browser.click(f"{self.lists('market.trial')} input[value='{position}']")
         told, turned = set(), set()
         for _ in range(40):
             self.press("draw")
@@ -118,7 +143,7 @@ class Drawing(Opened):
             told.add(self.hand("market.trial"))
             self.press("turn")
             turned.add(self.hand("market.trial"))
-        lists = {g: ", ".join(subject.code(i) for i in subject.list_of("2-3-4", g)) or "nobody" for g in range(32)}
+        lists = {g: ", ".join(subject.code(i) for i in subject.list_of("2-3-4", g)) or "no offer" for g in range(32)}
         self.assertLessEqual(told, {f"Your list: {names}. Which kind is it?" for names in lists.values()})
         right = set()
         for g, text in enumerate(self.expected("market.trial", "2-3-4")):
@@ -141,9 +166,8 @@ class Screens(Opened):
         for width in PHONES:
             self.browser.size(width, 800, phone=True)
             self.browser.open(self.path)
-            for position in itertools.chain([None], (1, 2, 3, 4)):
-                if position:
-                    self.browser.click(f"{self.lists('market.trial')} input[value='{position}']")
+            for position in (2, 3, 4, 1, 2):
+                self.browser.click(f"{self.lists('market.trial')} input[value='{position}']")
                 self.assertEqual(self.browser.run(TOO_WIDE, width), [width, []])
 
     def test_words_stay_in_their_drawings(self):
@@ -228,9 +252,7 @@ class OwnTrial(Opened):
 class Picture(Opened):
     def test_picture(self):
         """The picture of docs/: a market day, three offers called idle."""
-        self.browser.size(1100, 1060)
-        for position in (2, 3, 4):
-            self.browser.click(f"{self.lists('market.trial')} input[value='{position}']")
+        self.browser.size(1100, 1040)
         self.browser.run("document.querySelector(arguments[0]).previousElementSibling.previousElementSibling"
                          ".previousElementSibling.previousElementSibling.scrollIntoView()", self.lists("market.trial"))
         picture = self.browser.picture()

@@ -2,9 +2,13 @@
 
 trials.py    trials and tables as values, the files of their runs, sums and k-max values
 answers.py   what the proved programs answer, and the reference with a slip switched on
-markup.py    elements, prose with numbers in it, tables
+markup.py    elements, prose with numbers in it
+tables.py    the tables of a trial
 drawings.py  dots on a line, pairs and coins
+panels.py    all the lists of a trial, with boxes to tick
+meanings.py  what a refusal means
 readme.py    the README's own words
+samples.py, paths.py  where things stand
 chapters/    a file for each chapter
 page.py      the whole page, and that of a trial of one's own; page.css and page.js are laid into it
 

@@ -56,6 +56,14 @@ class Answer:
         """The list: the offers (from 0) that are rejected."""
         return [i for i, verdict in enumerate(self.verdicts) if verdict.word == "rejected"]
 
+    def rejected_in(self, step: int) -> list:
+        return [i for i in self.named() if self.verdicts[i].step == step]
+
+    def left(self, step: int) -> list:
+        """The offers (from 0) that are left before a step."""
+        return [i for i, verdict in enumerate(self.verdicts)
+                if verdict.word == "kept" or verdict.word == "rejected" and verdict.step >= step]
+
 
 @dataclass(frozen=True)
 class Refusal:

@@ -1,5 +1,6 @@
 """Drawings, as SVG. Each has a name and a description for a screen reader, and no sign is a colour alone."""
 
+import re
 from collections import Counter
 
 from .markup import el, fact, say
@@ -34,12 +35,13 @@ def dot(x: str, y: int, above: bool, name):
     return el("g", name, mark, data_x=x)
 
 
-def dot_line(ident: str, title, description, subject: str, values, critical, allowed, observed):
+def dot_line(subject: str, description, values, critical, allowed, observed):
     """The k-max values by row as dots on a line, the critical value, and below it the observed values.
 
     `subject` names the set for the facts, `values` are (row, value), `observed` are (offer from 0, code,
     value); the critical value is a number, and `allowed` says how many dots may lie above it.
     """
+    ident, title = re.sub("[ .]", "-", subject), fact(f"{subject} drawing", f"Dots on a line: {subject}")
     scale = Scale([value for _, value in values] + [value for *_, value in observed] + [critical])
     base = 46 + STACK * max(Counter(value for _, value in values).values())
     return drawing(ident, base + 34 + 18 * len(observed), title, description,
@@ -92,8 +94,8 @@ def arrow(subject, scale, one, critical, y):
 def shop(x: int, y: int, letter: str, treated: bool):
     """A shop; one that takes the coupons has a thick wall and a coupon below."""
     house = el("path", d=f"M{x} {y}l16 -12l16 12v24h-32z", class_="shop treated" if treated else "shop")
-    coupon = [el("rect", x=x + 3, y=y + 28, width=26, height=12, class_="coupon"),
-              el("text", "coupon", x=x + 16, y=y + 37, text_anchor="middle", class_="tiny")]
+    coupon = [el("rect", x=x - 5, y=y + 28, width=42, height=15, class_="coupon"),
+              el("text", "coupon", x=x + 16, y=y + 39, text_anchor="middle", class_="tiny")]
     return [house, el("text", letter, x=x + 16, y=y + 18, text_anchor="middle"), coupon if treated else None]
 
 
@@ -106,6 +108,6 @@ def coin_picture(ident: str, title, description, pairs: int, exchanged):
                   el("circle", cx=x + 47, cy=28, r=9, class_="coin"),
                   el("text", "→" if turned else "←", x=x + 47, y=32,
                      text_anchor="middle"),
-                  el("text", say("pair {j}", j=fact(f"pair {j + 1}", j + 1, "tspan")), x=x + 47, y=78,
+                  el("text", say("pair {j}", j=fact(f"pair {j + 1}", j + 1, "tspan")), x=x + 47, y=82,
                      text_anchor="middle")]
-    return drawing(ident, 86, title, description, drawn, width=116 * pairs)
+    return drawing(ident, 90, title, description, drawn, width=116 * pairs)

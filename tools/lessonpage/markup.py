@@ -4,8 +4,8 @@ from html import escape
 
 VOID = {"meta", "link", "input", "br", "img"}
 DRAWN = {"circle", "line", "path", "rect"}  # SVG closes them in themselves
-BLOCKS = {"caption", "div", "fieldset", "figcaption", "figure", "footer", "h1", "h2", "h3", "h4", "h5", "head", "header", "li", "main",
-          "nav", "ol", "p", "pre", "section", "style", "svg", "table", "tbody", "thead", "tr", "ul"}  # a line ends after each
+BLOCKS = {"caption", "div", "dl", "fieldset", "figcaption", "figure", "footer", "h1", "h2", "h3", "h4", "h5", "head", "header",
+          "li", "main", "nav", "ol", "p", "pre", "section", "style", "svg", "table", "tbody", "thead", "tr", "ul"}
 
 
 class Markup(str):
@@ -27,7 +27,7 @@ def el(tag: str, *parts, **attributes) -> Markup:
                     for name, value in attributes.items() if value is not None)
     if tag in VOID | DRAWN:
         return Markup(f"<{tag}{named}/>")
-    end = "\n" if tag in BLOCKS else ""
+    end = "\n" if tag in BLOCKS else ""  # so that the source can be read
     return Markup(f"<{tag}{named}>{inside(parts)}</{tag}>{end}")
 
 
@@ -50,9 +50,14 @@ def para(template: str, **parts) -> Markup:
     return el("p", say(template, **parts))
 
 
+def sign(character: str, name: str) -> Markup:
+    """A sign, with its name for a screen reader."""
+    return el("span", character, role="img", aria_label=name)
+
+
 def listing(codes) -> str:
-    """Printed codes as a list: nobody where there are none."""
-    return ", ".join(codes) or "nobody"
+    """Printed codes as a list."""
+    return ", ".join(codes) or "no offer"
 
 
 def table(caption, head, rows, **attributes) -> Markup:

@@ -5,24 +5,30 @@ from .markup import Markup, el, fact, say, table
 from .trials import Pairs, Table, Trial
 
 OBSERVED = "★ observed"
+MOST_ACROSS = 6  # figures that fit across a phone; more can be scrolled
+SPACE = "\N{NARROW NO-BREAK SPACE}"
 
 
 def figures_table(name: str, trial: Trial, sums: bool = True) -> Markup:
     """An offer a row, with its figures by pair or shop; of pairs also its observed sum."""
-    unit, caption = ("pair", "The differences, in cents") if isinstance(trial.layout, Pairs) else ("shop", "The figures, in cents")
+    unit, what = ("pair", "differences") if isinstance(trial.layout, Pairs) else ("shop", "figures")
     units, sums = range(trial.layout.units), sums and unit == "pair"
     head = ["offer", *(say("{unit} {j}", unit=unit, j=fact(f"{unit} {j + 1}", j + 1)) for j in units), *["sum"] * sums]
     rows = [[fact(f"{name} code {i}", code, "th", scope="row"),
              [fact(f"{name} figure {i} {j}", figures[j], "td") for j in units],
              fact(f"{name} entry 0 {i}", sum(figures), "td", class_="total") if sums else None]
             for i, (code, figures) in enumerate(trial.offers)]
-    return el("div", table(caption, head, rows), class_="scroll", tabindex="0", role="region", aria_label=caption)
+    caption = f"The {what} in {name}, in cents"
+    made = table(caption, head, rows)
+    if len(units) <= MOST_ACROSS:
+        return made
+    return el("div", made, class_="scroll", tabindex="0", role="region", aria_label=caption)
 
 
 def signed(figures) -> str:
     """Differences as a sum, 5 + 3 - 4, with spaces that do not break."""
     first, *others = figures
-    return "\N{NARROW NO-BREAK SPACE}".join([str(first), *(f"{'-' if x < 0 else '+'}\N{NARROW NO-BREAK SPACE}{abs(x)}" for x in others)])
+    return SPACE.join([str(first), *(f"{'-' if x < 0 else '+'}{SPACE}{abs(x)}" for x in others)])
 
 
 def way_cell(name: str, trial: Trial, g: int) -> list:
@@ -36,7 +42,7 @@ def exchange_table(name: str, trial: Trial, caption) -> Markup:
     """Every exchange as a row: each offer's signed differences and their sum."""
     head = ["row", ("pairs exchanged", "way")]
     for i, code in enumerate(trial.codes):
-        head += [fact(f"{name} code {i}", code), "sum"]
+        head += [fact(f"{name} code {i}", code), say("sum of {code}", code=fact(f"{name} code {i}", code))]
     rows = []
     for g in range(trial.layout.rows):
         cells = [[fact(f"{name} signed {g} {i}", signed(trial.layout.listed(figures, g)), "td", class_="sum"),
@@ -62,5 +68,5 @@ def handed_table(name: str, handed: Table) -> Markup:
                [fact(f"{name} entry {g} {i}", whole(value), "td") for i, value in enumerate(row)],
                el("td", OBSERVED if g == handed.observed else "", class_="sign"),
                class_="observed" if g == handed.observed else None) for g, row in enumerate(handed.rows)]
-    head = ["row", *(say("offer {i}", i=fact(f"{name} code {i}", code)) for i, code in enumerate(handed.codes)), ("what it is", "sign")]
-    return table("The table, as it is handed in", head, rows)
+    head = ["row", *(fact(f"{name} code {i}", code) for i, code in enumerate(handed.codes)), ("what it is", "sign")]
+    return table(f"The table {name}, as it is handed in", head, rows)

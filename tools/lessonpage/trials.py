@@ -11,6 +11,8 @@ from math import comb
 
 import trialtext
 
+LARGEST = {1: "largest", 2: "second largest"}  # the k-max in words
+
 
 @dataclass(frozen=True)
 class Pairs:
@@ -87,6 +89,10 @@ class Trial:
             (code, tuple(self.layout.listed(figures, g)) if i in idle else figures)
             for i, (code, figures) in enumerate(self.offers)))
 
+    def of(self, offers):
+        """The trial with these offers (from 0) alone."""
+        return replace(self, offers=tuple(self.offers[i] for i in offers))
+
     def columns(self) -> list:
         """The table, column by column."""
         return [[self.layout.entry(figures, g) for g in range(self.layout.rows)] for _, figures in self.offers]
@@ -114,7 +120,7 @@ class Table:
     @property
     def codes(self) -> list:
         """Its offers have no codes: their positions, from 1."""
-        return [str(j + 1) for j in range(len(self.rows[0]))]
+        return [f"offer {j + 1}" for j in range(len(self.rows[0]))]
 
     @property
     def e(self) -> int:

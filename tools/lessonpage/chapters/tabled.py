@@ -51,14 +51,14 @@ def tabled(programs) -> list:
              offers=fact(f"{name} offers", len(trial.offers)), first=first, second=second,
              pairs=fact(f"{name} units", trial.layout.units)),
         figures_table(name, trial, sums=False),
-        para("Say that an offer does nothing. Then the coupons made no difference, and the two shops of a pair would "
-             "have sold what they sold with the coin the other way up, too. The same difference would stand in the "
-             "book, with the other sign. That is all a coin can do to such an offer."),
+        para("Say that an offer does nothing. We call such an offer idle. Each shop would then have sold as much of it "
+             "with the coupons as without. Had the coin fallen the other way, the same difference would stand in the "
+             "book with the other sign. That is all that a coin can do to an idle offer."),
         pictures(name, trial),
-        para("So the coins might have fallen in {rows} ways, and for each we can write down what an offer that does "
-             "nothing would have shown. That is the table: a row for each way, and in it each offer's sum. In a row "
-             "the differences of the exchanged pairs have the other sign. Row {zero} exchanges nothing: it is the "
-             "observed one, what the shops really sold.", rows=rows, zero=fact(f"{name} row 0", 0)),
+        para("The coins might have fallen in {rows} ways, each as likely as any other, and for each we can write down "
+             "what an idle offer would have shown. That is the table: a row for each way, and in it each offer's sum. In "
+             "a row the differences of the exchanged pairs have the other sign. Row {zero} exchanges nothing: it is the "
+             "observed one, what the trial really showed.", rows=rows, zero=fact(f"{name} row 0", 0)),
         exchange_table(name, trial, say("Every exchange of the {rows}", rows=rows)),
         para("Look down the sums of {first}. Its observed sum, {top}, is the largest: no other fall of the coins gets "
              "there. The observed sum of {second} is {low}, and other rows get there or higher. That is what the "
