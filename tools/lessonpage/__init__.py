@@ -7,6 +7,7 @@ tables.py    the tables of a trial
 drawings.py  dots on a line, pairs and coins
 panels.py    all the lists of a trial, with boxes to tick
 meanings.py  what a refusal means
+words.py     the words of the page, which stand in words/, a text for each chapter
 readme.py    the README's own words
 samples.py, paths.py  where things stand
 chapters/    a file for each chapter

@@ -86,9 +86,9 @@ def arrow(subject, scale, one, critical, y):
     words = say("{code}: {value}, {word}", code=fact(f"{subject} code {offer}", code, "tspan"),
                 value=fact(f"{subject} observed {offer}", value, "tspan"),
                 word="above" if value > critical else "not above")
+    side, start = ("start", x + 10) if to_right else ("end", x - 10)
     return el("g", el("path", d=f"M{x:.1f} {y - 9}l6 11h-12z", class_="arrow"),
-              el("text", words, x=f"{x + (10 if to_right else -10):.1f}", y=y, text_anchor="start" if to_right else "end"),
-              data_x=f"{x:.1f}")
+              el("text", words, x=f"{start:.1f}", y=y, text_anchor=side), data_x=f"{x:.1f}")
 
 
 def shop(x: int, y: int, letter: str, treated: bool):

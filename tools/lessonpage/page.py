@@ -9,6 +9,7 @@ from .chapters.stepped import stepped
 from .chapters.tabled import tabled
 from .markup import Markup, el, fact, para
 from .paths import HERE
+from .words import words_of
 
 TITLE = "The lists that the coins might have given"
 
@@ -24,8 +25,8 @@ def page(title: str, *parts) -> str:
     """One file: style and script are laid into it, and nothing is fetched."""
     style = (HERE / "page.css").read_text(encoding="utf-8")
     script = (HERE / "page.js").read_text(encoding="utf-8")
-    head = el("head", el("meta", charset="utf-8"), el("meta", name="viewport", content="width=device-width, initial-scale=1"),
-              el("title", title), el("link", rel="icon", href="data:,"), el("style", unparsed(style)))
+    head = el("head", el("meta", charset="utf-8"), el("title", title), el("link", rel="icon", href="data:,"),
+              el("meta", name="viewport", content="width=device-width, initial-scale=1"), el("style", unparsed(style)))
     return "<!DOCTYPE html>\n" + el("html", head, el("body", *parts, el("script", unparsed(script))), lang="en") + "\n"
 
 
@@ -50,16 +51,13 @@ def laid_out(title: str, name: Markup, lead, chapters, programs) -> str:
     for number, (ident, words, write) in enumerate(chapters, 1):
         programs.tell(words)
         written.append(chapter(number, ident, words, write(programs)))
-    closing = para("Every verdict on this page was printed by the proved programs of Becardlarder, but those that are called "
-                   "slips. The page itself works nothing out: it only shows and hides.")
-    return page(title, el("header", el("h1", name), lead, contents(chapters)), el("main", written), el("footer", closing))
+    return page(title, el("header", el("h1", name), lead, contents(chapters)), el("main", written),
+                el("footer", para(words_of("page")["closing"])))
 
 
 def whole_page(programs) -> str:
     """The page of the samples."""
-    lead = el("p", "A trial of offers prints one list. Its level, say one in twenty, is often taken for a fact about that "
-              "list. It is not. It is a fact about all the lists that the coins might have given, and only one of those is "
-              "ever printed. This page shows the others.", class_="lead")
+    lead = el("p", words_of("page")["lead"], class_="lead")
     return laid_out(TITLE, TITLE, lead, CHAPTERS, programs)
 
 

@@ -8,8 +8,9 @@ from dataclasses import dataclass
 from itertools import chain, combinations
 
 from .answers import Answer, Programs
-from .markup import Markup, el, fact, listing, say, sign
+from .markup import Markup, el, fact, listing, para, say, sign
 from .trials import Pairs, Trial, trial_of
+from .words import words_of
 
 MOST_OFFERS, MOST_ROWS = 4, 32  # up to these every set can be ticked
 
@@ -59,7 +60,7 @@ def chosen_sets(lists: Lists) -> dict:
 
 
 def begun(lists: Lists) -> tuple:
-    """The set that is ticked at first: the offers that are not on the printed list, or all where these are fewer than k."""
+    """What is ticked at first: the offers that are not on the printed list, or all where these are fewer than k."""
     named, everyone = lists.answer.named(), range(len(lists.trial.offers))
     others = tuple(i for i in everyone if i not in named)
     return others if len(others) >= lists.trial.k else tuple(everyone)
@@ -84,11 +85,12 @@ def choosing(lists: Lists, sets) -> Markup:
 
 
 def drawing_of_one(lists: Lists) -> Markup:
-    """Cover the lists and draw one. What is drawn, and the count of the set that is ticked, is told to a screen reader."""
+    """Cover the lists and draw one. What is drawn, and the count of what is ticked, is told to a screen reader."""
     buttons = [el("button", words, type="button", class_=name, disabled="disabled" if name == "turn" else None)
                for name, words in (("cover", "Cover the lists"), ("draw", "Draw one"), ("turn", "Turn it over"))]
-    return el("div", el("p", buttons), el("p", class_="hand", aria_live="polite"), el("p", class_="status", role="status"),
-              class_="needs-script", role="group", aria_label=f"Draw one of the lists of {lists.name}")
+    told = [el("p", class_="hand", aria_live="polite"), el("p", class_="status", role="status")]
+    return el("div", el("p", buttons), told, class_="needs-script", role="group",
+              aria_label=f"Draw one of the lists of {lists.name}")
 
 
 def card(lists: Lists, idle, g: int, named) -> Markup:
@@ -122,14 +124,13 @@ def panel(lists: Lists, idle, words: str) -> Markup:
     ident, of_set = f"panel-{lists.name}-{key(idle) or 'none'}", key(idle) or "-"
     title = say("Called idle: {codes}{words}", codes=lists.said(f"codes {of_set}", lists.codes(idle)),
                 words=f" ({words})" if words else "")
-    return el("section", el("h4", title, id=ident, class_="who"), el("p", say(
-        "Lists that name {k} or more idle offers ({cross}): {marked} of {rows}. The level allows at most {e}.",
-        k=lists.said("k", lists.trial.k), cross=sign("✗", "marked"),
-        marked=fact(f"{lists.name} marked {of_set}", marked, "strong", class_="count"),
-        rows=lists.said("rows", lists.answer.rows), e=lists.said("e", lists.answer.e))),
-        el("ol", [card(lists, idle, g, one) for g, one in enumerate(named)],
-           class_="cards" if lists.every_set else "cards packed"),
-        class_="panel", data_idle=key(idle), aria_labelledby=ident)
+    count = para(words_of("lists")["panel"], k=lists.said("k", lists.trial.k), cross=sign("✗", "marked"),
+                 marked=fact(f"{lists.name} marked {of_set}", marked, "strong", class_="count"),
+                 rows=lists.said("rows", lists.answer.rows), e=lists.said("e", lists.answer.e))
+    cards = el("ol", [card(lists, idle, g, one) for g, one in enumerate(named)],
+               class_="cards" if lists.every_set else "cards packed")
+    return el("section", el("h4", title, id=ident, class_="who"), count, cards,
+              class_="panel", data_idle=key(idle), aria_labelledby=ident)
 
 
 def all_lists(lists: Lists) -> Markup:
