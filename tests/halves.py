@@ -16,7 +16,8 @@ from pathlib import Path
 # What the first process runs: about half of the time. The second runs all others, new ones too.
 FIRST = ("test_chost", "test_cases", "test_putback", "test_vectors")
 # They call `rt`, of which one runs at a time (commands.py): at the end, when test_chost has long had its library.
-LAST = ("test_adjusted", "test_balanced", "test_benchcalls", "test_lesson", "test_report")
+LAST = ("test_adjusted", "test_balanced", "test_benchcalls", "test_lesson", "test_lessonform",
+        "test_report")
 
 
 def tests_of(suite):

@@ -14,26 +14,44 @@ import sys
 from pathlib import Path
 
 import trialtext
-from lessonpage.answers import Programs, Refusal, Trouble
+from lessonpage.answers import Refusal, Trouble
 from lessonpage.meanings import MEANINGS
 from lessonpage.page import own_page, whole_page
+from lessonpage.programs import Programs
 
 
 def arguments(words):
     parser = argparse.ArgumentParser(description=__doc__, formatter_class=argparse.RawDescriptionHelpFormatter,
                                      usage="lesson.py [TRIAL] -o FILE")
     parser.add_argument("trial", nargs="?", metavar="TRIAL", type=Path)
-    parser.add_argument("-o", dest="out", metavar="FILE", required=True)
+    parser.add_argument("-o", dest="out", metavar="FILE", required=True, type=Path)
     return parser.parse_args(words)
+
+
+def taken(path: Path) -> bytes:
+    """A file's bytes; of one that has no end, enough to be refused."""
+    try:
+        with path.open("rb") as given:
+            return given.read(trialtext.MOST_BYTES)
+    except OSError as error:
+        raise Trouble(f"{path}: {error.strerror}") from None
 
 
 def made(trial, programs):
     """The page, or the refusal of the trial."""
     if trial is None:
         return whole_page(programs)
-    data = trial.read_bytes()
+    data = taken(trial)
     answer = programs.trial(data)
     return answer if isinstance(answer, Refusal) else own_page(trial.name, data, programs)
+
+
+def save(page: str, path: Path) -> None:
+    try:
+        path.parent.mkdir(parents=True, exist_ok=True)
+        trialtext.save(path, page.encode("utf-8"))
+    except OSError as error:
+        raise Trouble(f"{path}: {error.strerror}") from None
 
 
 def main(words) -> int:
@@ -41,15 +59,11 @@ def main(words) -> int:
     try:
         page = made(asked.trial, programs)
         if isinstance(page, Refusal):
-            print(f"refused {page.number}\n{MEANINGS[page.number]}")
+            print(f"refused {page.number}\n{MEANINGS.get(page.number, '')}")
             return 1
-        Path(asked.out).parent.mkdir(parents=True, exist_ok=True)
-        trialtext.save(asked.out, page.encode("utf-8"))
+        save(page, asked.out)
     except Trouble as trouble:
         print(trouble, file=sys.stderr)
-        return 1
-    except OSError as error:
-        print(f"{error.filename}: {error.strerror}", file=sys.stderr)
         return 1
     print(f"{asked.out}: {programs.runs} runs of the proved programs, {programs.seconds():.1f} s", file=sys.stderr)
     return 0

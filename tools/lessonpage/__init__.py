@@ -1,7 +1,9 @@
 """The parts of the page to teach with (tools/lesson.py).
 
 trials.py    trials and tables as values, the files of their runs, sums and k-max values
-answers.py   what the proved programs answer, and the reference with a slip switched on
+answers.py   what is read off a report
+programs.py  the proved programs
+slipped.py   the reference with a slip switched on
 markup.py    elements, prose with numbers in it
 tables.py    the tables of a trial
 drawings.py  dots on a line, pairs and coins

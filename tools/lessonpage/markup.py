@@ -2,7 +2,7 @@
 
 from html import escape
 
-VOID = {"meta", "link", "input", "br", "img"}
+VOID = {"meta", "link", "input"}
 DRAWN = {"circle", "line", "path", "rect"}  # SVG closes them in themselves
 BLOCKS = {"caption", "div", "dl", "fieldset", "figcaption", "figure", "footer", "h1", "h2", "h3", "h4", "h5", "head",
           "header", "li", "main", "nav", "ol", "p", "pre", "section", "style", "svg", "table", "tbody", "thead", "tr", "ul"}

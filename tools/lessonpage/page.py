@@ -45,13 +45,13 @@ def chapter(number: int, ident: str, title: str, parts) -> Markup:
               class_="chapter", aria_labelledby=ident)
 
 
-def laid_out(title: str, name: Markup, lead, chapters, programs) -> str:
+def laid_out(title: str, heading, lead, chapters, programs) -> str:
     """A page of these chapters; each is told as it is begun."""
     written = []
     for number, (ident, words, write) in enumerate(chapters, 1):
         programs.tell(words)
         written.append(chapter(number, ident, words, write(programs)))
-    return page(title, el("header", el("h1", name), lead, contents(chapters)), el("main", written),
+    return page(title, el("header", el("h1", heading), lead, contents(chapters)), el("main", written),
                 el("footer", para(words_of("page")["closing"])))
 
 
@@ -61,7 +61,13 @@ def whole_page(programs) -> str:
     return laid_out(TITLE, TITLE, lead, CHAPTERS, programs)
 
 
+def printable(name: str) -> str:
+    """A file's name as a page can show it."""
+    return "".join(character if character.isprintable() else "\N{REPLACEMENT CHARACTER}" for character in name)
+
+
 def own_page(name: str, data: bytes, programs) -> str:
     """The last chapters, for an accepted trial file."""
     chapters = (("lists", ALL_LISTS, partial(own_lists, data)), LAST)
-    return laid_out(f"{TITLE}: {name}", el("span", TITLE, ": ", fact("file", name)), None, chapters, programs)
+    heading = [TITLE, ": ", el("span", printable(name), data_is="file")]
+    return laid_out(f"{TITLE}: {printable(name)}", heading, None, chapters, programs)

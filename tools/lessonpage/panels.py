@@ -7,9 +7,10 @@ script all of them stand on the page, and in print too.
 from dataclasses import dataclass
 from itertools import chain, combinations
 
-from .answers import Answer, Programs
+from .answers import Answer
 from .markup import Markup, el, fact, listing, para, say, sign
-from .trials import Pairs, Trial, trial_of
+from .programs import Programs
+from .trials import Pairs, Trial, idle_names, trial_of
 from .words import words_of
 
 MOST_OFFERS, MOST_ROWS = 4, 32  # up to these every set can be ticked
@@ -54,8 +55,11 @@ def chosen_sets(lists: Lists) -> dict:
     if lists.every_set:
         sets = chain.from_iterable(combinations(everyone, size) for size in range(len(everyone) + 1))
         return {idle: "" for idle in sets}
-    sets = {tuple(i for i in everyone if i not in named): "the offers that are not on the printed list",
-            named: "those that are on it", everyone[1::2]: "every second offer", everyone: "every offer"}
+    sets = {}
+    for idle, words in ((tuple(i for i in everyone if i not in named), "the offers that are not on the printed list"),
+                        (named, "the offers on the printed list"), (everyone[1::2], "every second offer"),
+                        (everyone, "every offer")):
+        sets.setdefault(idle, words)  # the first name of a set
     return {idle: words for idle, words in sets.items() if idle}
 
 
@@ -95,12 +99,12 @@ def drawing_of_one(lists: Lists) -> Markup:
 
 def card(lists: Lists, idle, g: int, named) -> Markup:
     """The list of one run. It is marked where it names k idle offers or more; with fewer than k names it can't be."""
-    wrong, k = sum(i in idle for i in named), lists.trial.k
+    wrong, marked = idle_names(idle, named), lists.trial.is_wrong(idle, named)
     names = [el("span", lists.trial.codes[i], class_="idle" if i in idle else None) for i in named]
-    mark = el("span", [sign("✗", "marked"), " "] if wrong >= k else None, f"{wrong} idle", class_="mark")
+    mark = el("span", [sign("✗", "marked"), " "] if marked else None, f"{wrong} idle", class_="mark")
     return el("li", el("span", way_of(lists, g), class_="way"), " ",
               el("span", joined(names) if names else listing(()), class_="names"), [" ", mark] if wrong else None,
-              class_="card marked" if wrong >= k else "card" if len(named) >= k else "card short",
+              class_="card marked" if marked else "card" if len(named) >= lists.trial.k else "card short",
               data_is=f"{lists.name} list {key(idle) or '-'} {g}")
 
 
@@ -120,7 +124,7 @@ def way_of(lists: Lists, g: int):
 def panel(lists: Lists, idle, words: str) -> Markup:
     """All the lists with these offers idle, and how many are marked, against e."""
     named = [lists.named(idle, g) for g in lists.rows]
-    marked = sum(sum(i in idle for i in one) >= lists.trial.k for one in named)
+    marked = sum(lists.trial.is_wrong(idle, one) for one in named)
     ident, of_set = f"panel-{lists.name}-{key(idle) or 'none'}", key(idle) or "-"
     title = say("Called idle: {codes}{words}", codes=lists.said(f"codes {of_set}", lists.codes(idle)),
                 words=f" ({words})" if words else "")

@@ -89,6 +89,10 @@ class Trial:
             (code, tuple(self.layout.listed(figures, g)) if i in idle else figures)
             for i, (code, figures) in enumerate(self.offers)))
 
+    def is_wrong(self, idle, named) -> bool:
+        """Whether a list is a wrong one: it names k or more idle offers."""
+        return idle_names(idle, named) >= self.k
+
     def of(self, offers):
         """The trial with these offers (from 0) alone."""
         return replace(self, offers=tuple(self.offers[i] for i in offers))
@@ -140,6 +144,11 @@ def table_of(text: str) -> Table:
     found = {words[0]: list(map(int, words[1:])) for words in lines if words and words[0] != "row"}
     rows = tuple(tuple(map(float, words[1:])) for words in lines if words and words[0] == "row")
     return Table(tuple(found["level"]), found["k"][0], found["observed"][0], rows)
+
+
+def idle_names(idle, named) -> int:
+    """How many of the offers on a list are idle."""
+    return sum(i in idle for i in named)
 
 
 def k_maxes(columns, offers, k: int) -> list:

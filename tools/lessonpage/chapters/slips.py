@@ -1,12 +1,13 @@
 """Chapter: the slips. The answer with the slip beside the correct one, where they part, and what it costs the shop."""
 
 from dataclasses import dataclass
-from itertools import combinations, zip_longest
+from itertools import zip_longest
 
-from ..answers import Answer, slipped_table, slipped_trial
+from ..answers import Answer
 from ..markup import Markup, el, fact, listing, para, say, table
 from ..panels import key
 from ..samples import sample
+from ..slipped import slipped_table, slipped_trial
 from ..tables import figures_table, handed_table
 from ..trials import LARGEST, Table, Trial, k_maxes, table_of, trial_of
 from ..words import words_of
@@ -125,16 +126,14 @@ def by_hand(case: Case, programs) -> Markup | None:
     if not case.slip.step:
         return None
     step, trial, columns = case.slip.step, case.sample, case.sample.columns()
-    left = case.correct.left(step)
-    gone = [i for i in range(len(trial.codes)) if i not in left]
-    rows = []
-    for n, back in enumerate(combinations(gone, trial.k - 1) if gone else [()], 1):
-        offers, name = sorted([*left, *back]), f"{case.slip.file} step {step} set {n}"
+    sets, left, rows = case.correct.sets(step, trial.k), case.correct.left(step), []
+    for n, (back, offers) in enumerate(sets, 1):
+        name = f"{case.slip.file} step {step} set {n}"
         bar = programs.trial(trial.of(offers).file()).steps[0].critical
         words = say("{back} put back", back=fact(f"{name} back", case.listed(back))) if back else "all offers"
         rows.append(values_row(words, name, k_maxes(columns, offers, trial.k), fact(f"{name} critical", bar, "td")))
     if len(case.slipped.steps) >= step:
-        none = 0 if gone else 1  # set 0 has nothing put back
+        none = 0 if len(sets) > 1 else 1  # set 0 has nothing put back
         rows.append(values_row("the slip", f"{case.slip.file} step {step} set {none}", k_maxes(columns, left, trial.k),
                                fact(f"{case.with_slip} bar {step}", case.slipped.steps[step - 1].critical, "td")))
     number = fact(f"{case.slip.file} step {step} number", step)
@@ -174,7 +173,7 @@ def broken(slip: Slip, programs) -> Markup | None:
     _, data = sample(file)
     trial, answer = trial_of(data), programs.trial(data)
     lists = [slipped_trial(slip.name, trial.run(idle, g).file()).named() for g in range(answer.rows)]
-    wrong = sum(sum(i in idle for i in named) >= trial.k for named in lists)
+    wrong = sum(trial.is_wrong(idle, named) for named in lists)
     return say(WORDS["broken"], idle=fact(f"{file} codes {key(idle)}", listing(trial.codes[i] for i in idle)),
                wrong_lists=fact(f"{file} slip {slip.name} marked {key(idle)}", wrong),
                lists=fact(f"{file} rows", answer.rows), tolerance=fact(f"{file} k", trial.k),

@@ -1,7 +1,6 @@
 """Chapter: a step. The k-max values as dots on a line, the critical value, what is put back; W, and the table P."""
 
 from dataclasses import dataclass
-from itertools import combinations
 
 from ..answers import Answer
 from ..drawings import dot_line
@@ -110,10 +109,9 @@ def of_w(programs) -> list:
 def put_back(subject: Subject, step, programs, handed) -> list:
     """A later step: a drawing for each set of rejected offers that is put back."""
     left = subject.answer.left(step.number)
-    gone = [i for i in range(len(subject.codes)) if i not in left]
     parts = [heading(subject, step.number, "each rejected offer is put back in turn")]
-    for n, back in enumerate(combinations(gone, subject.k - 1), 1):
-        offers, name = sorted([*left, *back]), f"{subject.name} step {step.number} set {n}"
+    for n, (back, offers) in enumerate(subject.answer.sets(step.number, subject.k), 1):
+        name = f"{subject.name} step {step.number} set {n}"
         critical = int(programs.table(handed.of(offers)).steps[0].critical)
         parts += [el("h5", say("Put back {back}", back=fact(f"{name} back", listing(subject.codes[i] for i in back)))),
                   dotted(subject, name, offers, left, critical)]

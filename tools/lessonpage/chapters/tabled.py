@@ -2,7 +2,7 @@
 
 from ..drawings import coin_picture
 from ..markup import el, fact, para, say
-from ..meanings import meaning
+from ..meanings import MEANINGS
 from ..samples import sample
 from ..tables import exchange_table, figures_table
 from ..trials import Trial, trial_of
@@ -34,7 +34,7 @@ def turned_away(programs) -> list:
     one, other = (fact(f"{name} code {i}", code) for i, code in enumerate(codes))
     return [el("h3", say("{one} and {other} are one offer", one=one, other=other)), para(WORDS["twice"], other=other),
             el("pre", say("refused {number}", number=fact(f"{name} refusal", refusal.number)), class_="printed"),
-            para(WORDS["why refused"], meaning=meaning(refusal.number), one=one, other=other)]
+            para(WORDS["why refused"], meaning=MEANINGS[refusal.number], one=one, other=other)]
 
 
 def tabled(programs) -> list:
