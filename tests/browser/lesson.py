@@ -224,8 +224,10 @@ class Paper(Opened):
         self.assertEqual(self.browser.run(BUTTONS), 0)
 
 
-class OwnTrial(Opened):
-    """A trial of one's own, with a few sets."""
+class OfOnesOwn(Opened):
+    """The page of a sample, made as for a trial of one's own."""
+
+    sample = ""
 
     @classmethod
     def setUpClass(cls):
@@ -233,7 +235,11 @@ class OwnTrial(Opened):
         folder = tempfile.TemporaryDirectory()
         cls.addClassCleanup(folder.cleanup)
         cls.path = Path(folder.name) / "own.html"
-        cls.path.write_text(own_page((ROOT / "samples" / "ladder.trial").read_bytes()), encoding="utf-8")
+        cls.path.write_text(own_page((ROOT / "samples" / cls.sample).read_bytes()), encoding="utf-8")
+
+
+class AFewSets(OfOnesOwn):
+    sample = "ladder.trial"
 
     def test_each_set(self):
         subject = FACTS.subject(("ladder.trial",))
@@ -247,16 +253,10 @@ class OwnTrial(Opened):
         self.assertEqual(self.browser.run(TOO_WIDE, 360), [360, []])
 
 
-class LargestTrial(Opened):
+class Largest(OfOnesOwn):
     """512 lists of 16 offers."""
 
-    @classmethod
-    def setUpClass(cls):
-        super().setUpClass()
-        folder = tempfile.TemporaryDirectory()
-        cls.addClassCleanup(folder.cleanup)
-        cls.path = Path(folder.name) / "largest.html"
-        cls.path.write_text(own_page((ROOT / "samples" / "full.trial").read_bytes()), encoding="utf-8")
+    sample = "full.trial"
 
     def test_figures_on_paper(self):
         """The figures, which a phone scrolls, fit across a sheet of 180 mm."""

@@ -9,7 +9,7 @@ from . import paths
 from .answers import Answer, Step, Trouble, Verdict, told, whole
 from .trials import Table
 
-from frames import frame
+from frames import frame  # of the tests, which `paths` has put within reach
 from generators.kinds import StepCase, TableCase
 from reference.run import begin
 
