@@ -377,6 +377,9 @@ class OwnTerms(unittest.TestCase):
         """The terms that are explained on a page of one's own name the trial's own settings."""
         tree = ET.fromstring(own_page(SAMPLES["ladder.trial"]))
         self.assertEqual(names(tree.find(".//dl")), [f"own.trial {name}" for name in ("rows", "level", "e", "k")])
+        self.assertEqual([text_of(term) for term in tree.iter("dt")],
+                         ["the list", "M = 16", "the level, 2/32, and e = 1", "the tolerance, k = 1", "set aside"])
+        self.assertNotIn("own.trial", text_of(tree.find("body")))
         self.assertEqual(Facts({"own.trial": SAMPLES["ladder.trial"]}).text("own.trial e"), "1")
 
 

@@ -106,8 +106,7 @@ def coin_picture(ident: str, title, description, pairs: int, exchanged):
         x, turned = 12 + j * 116, j + 1 in exchanged
         drawn += [shop(x, 20, "A", not turned), shop(x + 62, 20, "B", turned),
                   el("circle", cx=x + 47, cy=28, r=9, class_="coin"),
-                  el("text", "→" if turned else "←", x=x + 47, y=32,
-                     text_anchor="middle"),
+                  el("text", "→" if turned else "←", x=x + 47, y=32, text_anchor="middle"),
                   el("text", say("pair {j}", j=fact(f"pair {j + 1}", j + 1, "tspan")), x=x + 47, y=82,
                      text_anchor="middle")]
     return drawing(ident, 90, title, description, drawn, width=116 * pairs)

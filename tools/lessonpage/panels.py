@@ -10,7 +10,7 @@ from itertools import chain, combinations
 from .answers import Answer
 from .markup import Markup, el, fact, listing, para, say, sign
 from .programs import Programs
-from .trials import Pairs, Trial, idle_names, trial_of
+from .trials import OWN, Pairs, Trial, idle_names, trial_of
 from .words import words_of
 
 MOST_OFFERS, MOST_ROWS = 4, 32  # up to these every set can be ticked
@@ -93,8 +93,8 @@ def drawing_of_one(lists: Lists) -> Markup:
     buttons = [el("button", words, type="button", class_=name, disabled="disabled" if name == "turn" else None)
                for name, words in (("cover", "Cover the lists"), ("draw", "Draw one"), ("turn", "Turn it over"))]
     told = [el("p", class_="hand", aria_live="polite"), el("p", class_="status", role="status")]
-    return el("div", el("p", buttons), told, class_="needs-script", role="group",
-              aria_label=f"Draw one of the lists of {lists.name}")
+    of_trial = "" if lists.name == OWN else f" of {lists.name}"
+    return el("div", el("p", buttons), told, class_="needs-script", role="group", aria_label=f"Draw one of the lists{of_trial}")
 
 
 def card(lists: Lists, idle, g: int, named) -> Markup:

@@ -2,7 +2,7 @@
 
 from .answers import whole
 from .markup import Markup, el, fact, say, table
-from .trials import Pairs, Table, Trial
+from .trials import OWN, Pairs, Table, Trial
 
 OBSERVED = "★ observed"
 MOST_ACROSS = 6  # figures that fit across a phone; more can be scrolled
@@ -18,7 +18,7 @@ def figures_table(name: str, trial: Trial, sums: bool = True) -> Markup:
              [fact(f"{name} figure {i} {j}", figures[j], "td") for j in units],
              fact(f"{name} entry 0 {i}", sum(figures), "td", class_="total") if sums else None]
             for i, (code, figures) in enumerate(trial.offers)]
-    caption = f"The {what} in {name}, in cents"
+    caption = f"The {what}, in cents" if name == OWN else f"The {what} in {name}, in cents"
     made = table(caption, head, rows)
     if len(units) <= MOST_ACROSS:
         return made

@@ -11,6 +11,7 @@ from math import comb
 
 import trialtext
 
+OWN = "own.trial"  # a trial of the teacher's own, for the facts; its file's name stands in the heading of its page
 LARGEST = {1: "largest", 2: "second largest"}  # the k-max in words
 
 

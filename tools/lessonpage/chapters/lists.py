@@ -4,7 +4,7 @@ from ..markup import Markup, el, fact, para, say, sign
 from ..panels import Lists, all_lists, lists_of
 from ..samples import sample
 from ..tables import choice_table, figures_table
-from ..trials import Pairs
+from ..trials import OWN, Pairs
 from ..words import words_of
 
 WORDS = words_of("lists")
@@ -56,18 +56,12 @@ def shop_lists(programs) -> list:
 
 def terms(lists: Lists) -> Markup:
     """The words that the chapters before would have explained."""
-    explained = {
-        "the list": "the offers that the program rejects. What is rejected is the claim that an offer does nothing.",
-        "M = {rows}": "the ways in which chance might have gone; each has a list of its own.",
-        "the level, {level}, and e = {e}": "how many of these lists may be wrong: the level times M, rounded down.",
-        "the tolerance, k = {k}": "a list is wrong if it names that many idle offers or more.",
-        "set aside": "an offer whose figures show nothing, whichever shops took the coupons. It is on no list."}
-    return el("dl", [[el("dt", say(word, **settings(lists))), el("dd", words)] for word, words in explained.items()])
+    return el("dl", [[el("dt", say(term, **settings(lists))), el("dd", words)] for term, words in words_of("terms").items()])
 
 
 def own_lists(data: bytes, programs) -> list:
-    """A trial of the teacher's own; whatever its file is called, its facts are those of own.trial."""
-    lists = lists_of("own.trial", data, programs)
+    """A trial of the teacher's own."""
+    lists = lists_of(OWN, data, programs)
     unit = "pair" if isinstance(lists.trial.layout, Pairs) else "shop"
     return [el("h3", "The trial"), introduced(lists), terms(lists),
             el("h3", "Its lists"), para(WORDS["idle"]), shown(unit), para(WORDS["draw"]), all_lists(lists)]
