@@ -3,7 +3,7 @@
 MEANINGS = {
     1: "The file is empty, is cut off within a word, or is longer than any trial: it is no trial file.",
     2: "A word of the file is missing, or one of another kind stands in its place.",
-    3: "The level is no fraction between nothing and the whole, or its lower number is too large.",
+    3: "The level is no fraction between nothing and the whole.",
     4: "The shape of the trial is wrong: too few or too many offers or pairs, or a tolerance k out of its range or above "
        "the offers; or bits that have to be zero are not.",
     5: "The code of an offer has more digits than are printed, or is printed with too many digits or with none.",
