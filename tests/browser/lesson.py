@@ -275,9 +275,9 @@ class Largest(OfOnesOwn):
 class Picture(Opened):
     def test_picture(self):
         """The picture of docs/: a market day, three offers called idle."""
-        self.browser.size(1100, 1040)
-        self.browser.run("document.querySelector(arguments[0]).previousElementSibling.previousElementSibling"
-                         ".previousElementSibling.previousElementSibling.scrollIntoView()", self.lists("market.trial"))
+        self.browser.size(1100, 1062)
+        self.browser.run("Array.from(document.querySelectorAll('h3')).find(e => e.textContent === arguments[0]).scrollIntoView()",
+                         "A market day")
         picture = self.browser.picture()
         self.assertTrue(picture.startswith(b"\x89PNG"))
         PICTURE.write_bytes(picture)
