@@ -1,0 +1,10 @@
+-- Figures one by one; nothing has to be known of the line.
+use Prim.Native.Nat.{◌-◌}
+use Rattle.limits.specs.Limits.{figures_most}
+use Rattle.vectors.proofs.trials.put_figures.Given as goal
+
+abbrev pub invariant-loop-i : goal.invariant-loop-i
+invariant-loop-i l = Unit
+
+abbrev pub decreases-loop-i : goal.decreases-loop-i
+decreases-loop-i l = figures_most - l.i
