@@ -20,7 +20,7 @@ import time
 import tty
 
 import cases
-from commands import rt
+import commands
 from generators.files import FULL_SHOPS
 from reference.trialfile import LONGEST
 
@@ -32,7 +32,7 @@ W, ASIDE, SHOPS = ((ROOT / "samples" / f"{name}.trial").read_bytes() for name in
 
 def prove(name: str):
     """Proves and builds a program: it is built only where it is proved."""
-    rt("check", name)
+    commands.program(name)
 
 
 def failure(stream: str, number: int) -> bytes:

@@ -11,7 +11,7 @@ from itertools import chain
 from pathlib import Path
 
 from cases import cases_of, every_case_of
-from commands import rt, run
+from commands import archive, run
 from expected import MARK
 from frames import shape_numbers
 from reference import ccall, report, table, trial, trialfile
@@ -29,7 +29,7 @@ library = None
 def setUpModule():
     global library
     shared = Path(_folder.name) / "benchcalls.so"
-    rt("staticlib", "benchcalls")
+    archive("benchcalls")
     run("gcc", "-shared", "-Wl,--whole-archive", ARCHIVE, "-Wl,--no-whole-archive", "-o", shared)
     library = CDLL(str(shared))
 

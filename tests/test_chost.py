@@ -13,7 +13,7 @@ from itertools import chain, islice
 from pathlib import Path
 
 from cases import cases_of, every_case_of, every_table_case
-from commands import rt, run
+from commands import archive, run
 from expected import MARK
 from generators.kinds import FileCase, TableCase
 from reference import balanced, ccall
@@ -44,7 +44,7 @@ def compiled(source: str, *more) -> Path:
 
 
 def setUpModule():
-    rt("staticlib", "host")
+    archive("host")
 
 
 def tearDownModule():

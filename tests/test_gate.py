@@ -11,6 +11,11 @@ from pathlib import Path
 ROOT = Path(__file__).resolve().parent.parent
 
 
+def proved(crate: str) -> str:
+    """What `rt` says at the end of a proved crate, as a shell command."""
+    return f'echo "crate {crate}: modules loaded=0 checked=7"; echo logic=proved functions=3'
+
+
 class Pretended(unittest.TestCase):
     def setUp(self):
         folder = tempfile.TemporaryDirectory()
@@ -58,6 +63,14 @@ class Gate(Pretended):
             self.assertEqual(self.gate(script), (1, ["begun", "0 passed, 1 failed"]))
         self.assertEqual(self.gate("exit 2")[1][-1], "0 passed, 1 failed")
 
+    def test_a_bad_edit(self):
+        """`rt ci` passes where an edit is bad, and the gate fails."""
+        for told, failed in (("9 refused", 0), ("9 refused, 1 bad", 1), ("9 refused, 2 of them only by a limit, 3 bad", 1)):
+            said = f"rt: ok; handles allowed: none; must-fail edits: {told}; every proof and must-fail edit was done in this run"
+            status, lines = self.gate(f"echo '{said}'; echo '12 passed, 0 failed'")
+            self.assertEqual((status, lines[-1]), (failed, f"12 passed, {failed} failed"))
+            self.assertEqual("tested" in lines, not failed)
+
 
 class OneAtATime(Pretended):
     def test_rt(self):
@@ -75,9 +88,10 @@ class Run(Pretended):
     def setUp(self):
         super().setUp()
         shutil.copy(ROOT / "Makefile", self.folder)
-        self.program("target/bin/report", "echo report of $(cat)")
-        self.program("target/bin/adjusted", "echo sheet of $(cat)")
-        self.program("target/bin/balanced", "echo balanced report of $(cat)")
+        self.program("crates/vectors/out/vectors", "")
+        self.program("crates/report/out/report", "echo report of $(cat)")
+        self.program("crates/adjusted/out/adjusted", "echo sheet of $(cat)")
+        self.program("crates/balanced/out/balanced", "echo balanced report of $(cat)")
         (self.folder / "samples").mkdir()
         for name in ("w", "saffron"):
             (self.folder / "samples" / f"{name}.trial").write_text(name)
@@ -90,41 +104,39 @@ class Run(Pretended):
     def test_each_crate_is_told_as_it_is_proved(self):
         os.mkfifo(self.folder / "more")
         self.program("bin/rt", f"""echo fn order::f: proved
-echo 'rt: order proved (3 s)'
+{proved('order')}
 cat {self.folder / 'more'}
-echo 'rt: select proved (unchanged since it was last proved)'
-echo 'rt: report proved (12 s)'
-echo 'rt: ok, 3 crates proved'""")
+{proved('report')}""")
         with self.make() as making:
-            self.assertEqual(making.stderr.readline(), "order proved (3 s)\n")  # while rt goes on
+            self.assertEqual(making.stderr.readline(), "order proved\n")  # while rt goes on
             (self.folder / "more").write_text("fn report::g: proved\n")
-            self.assertEqual(making.communicate(), ("report of w\n", "report proved (12 s)\n"))
+            self.assertEqual(making.communicate(), ("report of w\n", "report proved\n"))
             self.assertEqual(making.returncode, 0)
 
     def test_a_crate_that_is_not_proved(self):
-        self.program("bin/rt", "echo 'rt: order proved (3 s)'; echo why not >&2; exit 1")
+        self.program("bin/rt", f"{proved('order')}; echo why not >&2; exit 1")
         with self.make() as making:
             out, told = making.communicate()
         self.assertNotEqual(making.returncode, 0)
         self.assertEqual(out, "")
-        self.assertEqual(told.splitlines()[:3],
-                         ["order proved (3 s)", "rt: order proved (3 s)", "why not"])
+        self.assertEqual(told.splitlines()[:4],
+                         ["order proved", "crate order: modules loaded=0 checked=7", "logic=proved functions=3", "why not"])
 
     def test_other_programs(self):
-        self.program("bin/rt", 'echo "rt: $2 proved (7 s)"')
+        self.program("bin/rt", proved("$2"))
         for goal, program, text in (("sheet", "adjusted", "sheet of w\n"),
                                     ("balanced", "balanced", "balanced report of saffron\n")):
             with self.make(goal) as making:
-                self.assertEqual(making.communicate(), (text, f"{program} proved (7 s)\n"))
+                self.assertEqual(making.communicate(), (text, f"{program} proved\n"))
                 self.assertEqual(making.returncode, 0)
 
     def test_lesson(self):
         """Both programs are proved before the page is made, and the page is not made where one is not."""
-        self.program("bin/rt", 'echo "rt: $2 proved (7 s)"')
+        self.program("bin/rt", proved("$2"))
         self.program("bin/python3", "echo $*")
         with self.make("lesson") as making:
             self.assertEqual(making.communicate(), ("tools/lesson.py -o target/lesson/index.html\n",
-                                                    "report proved (7 s)\nvectors proved (7 s)\n"))
+                                                    "report proved\nvectors proved\n"))
             self.assertEqual(making.returncode, 0)
         self.program("bin/rt", "test $2 = report")
         with self.make("lesson") as making:

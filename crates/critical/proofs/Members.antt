@@ -4,7 +4,7 @@
 --   listed-finite        a row's values at listed columns are finite
 --   column_fits, seen_more, seen_all     its four largest values at listed columns, one after the other
 --   listed_start, listed_in, listed-past, listed-done     one after the other
-use Prim.Native.Nat.{ℕ, zero, suc, ◌+◌, ◌-◌, ◌/◌, ◌%◌, ◌≤◌, ◌<◌}
+use Prim.Native.Nat.{ℕ, suc, ◌+◌, ◌-◌, ◌/◌, ◌%◌, ◌≤◌, ◌<◌}
 use native.Mathlib.Omega.{arith}
 use native.Mathlib.Numerals.{add-one}
 use mathlib.Core.Path.{◌≡◌, refl, sym, ap, ap₂, ◌∙◌, subst}

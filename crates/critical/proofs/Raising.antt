@@ -5,7 +5,7 @@
 --   Raised           what holds as the k-max values of those rows are filled in
 --   raised-start, raised-in, raised-past, raised-done     one row after the other; place-fits, row_fits, row-test: the next one
 --   raised-enough, raised-rank, raised_is     their quantile is c(K)
-use Prim.Native.Nat.{ℕ, ◌+◌, ◌-◌, ◌*◌, ◌^◌, ◌≤◌, ◌<◌}
+use Prim.Native.Nat.{ℕ, ◌+◌, ◌-◌, ◌^◌, ◌≤◌, ◌<◌}
 use native.Mathlib.Omega.{arith}
 use native.Mathlib.Numerals.{add-one}
 use mathlib.Core.Path.{◌≡◌, refl, sym, ap, ap₂, ◌∙◌, subst}
@@ -15,20 +15,20 @@ use mathlib.Core.List.{List, [], ◌∷◌, ◌++◌, map}
 use lib.ListN.{length, get_or, take, drop, set, length-map, length-set}
 use lib.Seq.{take-suc, take-suc-set, take_all, drop-set-lt, length-take-le}
 use lib.Dec.{T, leb, ltb, ltb→lt, lt→ltb, leb→le, le→leb}
-use lib.Ieee.{Float, nan}
+use lib.Ieee.{Float}
 use borrow.Author.Tests.{ltb-false, le-ltb}
 use Rattle.order.specs.Order.{finite, low, smaller}
 use Rattle.order.specs.Counting.{bit, count, all}
 use Rattle.order.specs.Lists.{rows_of, tabulate}
 use Rattle.order.proofs.Booleans.{and_left, and_right, not-below}
-use Rattle.order.proofs.Counts.{all_get_d, count-length, count_same, count_map}
+use Rattle.order.proofs.Counts.{all_get_d, count-length, count_map}
 use Rattle.order.proofs.Infinities.{finite-low, smaller-low}
 use Rattle.order.proofs.Keys.{key, with_plus_zero-same, zero-finite}
 use Rattle.order.proofs.Lists.{get_d_map, map_more, tabulate-length, rows_of-length}
 use Rattle.order.proofs.Rows.{Finite, sound_row, Sound, sound-length, sound-finite, rows_of-sound}
 use Rattle.select.specs.Rank.{mth_smallest}
 use Rattle.select.proofs.Ranks.{above, mth_smallest-above, mth_smallest-plain, mth_smallest-keeps}
-use Rattle.columns.specs.Columns.{Columns, size, ◌∩◌, columns_of}
+use Rattle.columns.specs.Columns.{Columns, size, columns_of}
 use Rattle.columns.proofs.Masks.{columns_of-length}
 use Rattle.method.specs.Method.{k_max, critical_value}
 use Rattle.method.proofs.Critical.{tops, tops-finite, critical_value-law, critical_value-finite}

@@ -3,29 +3,26 @@
 --   top_start, top-push  at the start, with a value pushed
 --   nth-first, nth-second, nth-third, nth-fourth     the k-th of four, by tests of k
 --   nth-largest          with nothing to come, the k-th of t is the k-th largest, with plus zero for either zero
-use Prim.Native.Nat.{ℕ, zero, suc, ◌+◌, ◌-◌, ◌/◌, ◌%◌, ◌≤◌, ◌<◌, max, min}
+use Prim.Native.Nat.{ℕ, zero, suc, ◌+◌, ◌-◌, ◌≤◌, ◌<◌}
 use native.Mathlib.Omega.{arith}
-use native.Mathlib.Numerals.{add-one}
 use native.Mathlib.Decide.{dec_lt, dec_le}
-use mathlib.Core.Path.{◌≡◌, refl, sym, ap, ap₂, ◌∙◌, subst}
+use mathlib.Core.Path.{◌≡◌, refl, sym, ap, ◌∙◌, subst}
 use mathlib.Core.Logic.{◌↔◌}
 use mathlib.Core.Bool.{Bool, true, false, cond}
-use mathlib.Core.List.{List, [], ◌∷◌, map}
-use lib.ListN.{length, get_or, drop, take, set}
-use lib.Seq.{drop-cons}
-use lib.Dec.{T, ltb, eqb, lt→ltb}
-use lib.Ieee.{Float, nan, inf, fin, lt}
+use mathlib.Core.List.{List, [], ◌∷◌}
+use lib.ListN.{length}
+use lib.Dec.{T, ltb}
+use lib.Ieee.{Float, inf}
 use borrow.Author.Tests.{lt-ltb, le-ltb, ltb-true, ltb-false, eq-eqb, ne_eqb}
 use Rattle.order.specs.Order.{finite, low, smaller, larger, lesser, with_plus_zero}
 use Rattle.order.specs.Counting.{bit, count, all}
-use Rattle.order.proofs.Booleans.{not-below, and_left, and_right, and_both}
+use Rattle.order.proofs.Booleans.{not-below, and_left, and_right}
 use Rattle.order.proofs.Infinities.{finite-low, low-finite, smaller-low}
 use Rattle.order.proofs.Keys.{key, key-some, with_plus_zero-same}
 use Rattle.order.proofs.Rows.{Finite}
 use Rattle.select.specs.Rank.{kth_largest}
 use Rattle.select.proofs.Ranks.{Ranks, above, kth_largest-ranks, kth_largest-law}
-use Rattle.columns.specs.Columns.{Columns, size, within, columns_of}
-use Rattle.critical.specs.Internal.{four, blank, pushed, top_from, nth, members_from}
+use Rattle.critical.specs.Internal.{four, blank, pushed, top_from, nth}
 use Rattle.critical.specs.declared.kmax.Top.{Top}
 
 -- ---- counts over keys

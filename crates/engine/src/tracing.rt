@@ -150,7 +150,8 @@ pub fn full_run(
     ensures value { result ≡ accepted_run (full_run (rows_of rows columns table.now) (first_state rows columns k e observed live)) }
     ensures work_after { work.new ≡ cleared rows work.old }
 {
-    let few = masks::size_of(columns, live) < k;
+    let size = masks::size_of(columns, live);
+    let few = size < k;
     let start = State {
         rows,
         columns,

@@ -2,8 +2,8 @@
 // The definitions are in specs/, their laws in proofs/.
 #![tactic(auto)]
 
-mod adjusted; // the calls that tell adjusted figures
-mod balanced; // the calls over balanced tables
+pub mod adjusted; // the calls that tell adjusted figures
+pub mod balanced; // the calls over balanced tables
 
 ghost use Rattle.std.specs.Prelude.{◌≡◌, ◌≤◌, T, length};
 ghost use Rattle.refusals.specs.Buffers.{written};

@@ -12,7 +12,7 @@ use native.Mathlib.Nat.{pow-suc, mul-add, mul_assoc, mul_comm, mul-zero, one-mul
 use mathlib.Core.Path.{◌≡◌, refl, sym, ap, ap₂, ◌∙◌, subst}
 use mathlib.Core.Bool.{Bool, true, false, cond}
 use mathlib.Core.List.{List, [], ◌∷◌, ◌++◌, map}
-use lib.ListN.{length, get_or, take, drop, set, length-map, length-drop, length-set, drop_of_length-le}
+use lib.ListN.{length, get_or, take, drop, set, length-map, length-set, drop_of_length-le}
 use lib.Seq.{take-suc, take-suc-set, take-set-le, length-take-le, drop-cons, drop-drop, drop-set-lt, get_or-drop, get_or-take, ext_get_or}
 use lib.Dec.{T, leb, ltb, ltb→lt, lt→ltb}
 use lib.Pow.{pow_mono}
@@ -23,7 +23,6 @@ use Rattle.order.proofs.Booleans.{and_both}
 use Rattle.order.proofs.Counts.{all_get_d}
 use Rattle.order.proofs.Lists.{map_more, get_d_map, tabulate-length, tabulate-get_d, tabulate-more, rows_of-length}
 use Rattle.columns.specs.Columns.{size, columns_of, mask_of}
-use Rattle.columns.proofs.Masks.{mask_of-lt}
 use Rattle.masks.specs.Internal.{CheckedTable}
 use Rattle.masks.specs.Marks.{mark_of, those, marks_of, rows_kept, marks_at}
 use Rattle.masks.proofs.Parts.{part-row}

@@ -5,7 +5,7 @@
 --   those-every     all members pass
 --   those-map       of a mapped list
 --   those-narrow    those that pass a narrower test, out of those that pass a wider one
-use Prim.Native.Nat.{ℕ, ◌+◌}
+use Prim.Native.Nat.{◌+◌}
 use native.Mathlib.Omega.{arith}
 use mathlib.Core.Path.{◌≡◌, refl, ap, ◌∙◌}
 use mathlib.Core.Bool.{Bool, true, false, cond}

@@ -11,7 +11,7 @@ use native.Mathlib.Omega.{arith}
 use native.Mathlib.Nat.{pow-suc, mul_assoc}
 use mathlib.Core.Path.{◌≡◌, refl, sym, ap, ap₂, ◌∙◌, subst}
 use mathlib.Core.Bool.{Bool, true, false, ◌||◌}
-use mathlib.Core.List.{List, [], ◌∷◌, ◌++◌, map, zip_with}
+use mathlib.Core.List.{[], ◌∷◌, ◌++◌, map, zip_with}
 use lib.ListN.{length, replicate, length-append, length-replicate}
 use lib.Dec.{T}
 use lib.Pow.{pow_mono}
@@ -21,7 +21,6 @@ use Rattle.columns.specs.Columns.{Columns, size, ◌∪◌, choose, columns_of, 
 use Rattle.columns.proofs.Sets.{◌⊆◌, none, more, has, ⊆-at, ⊆-length, length-∪}
 use Rattle.columns.proofs.PutBack.{choose-sound}
 use Rattle.columns.proofs.Masks.{columns_of-length, columns_of-mask_of, mask_of-columns_of, mask_of-lt}
-use Rattle.masks.specs.Internal.{Walk}
 use Rattle.masks.proofs.Walks.{join_at, values-leaf, values-none, values-past, values-in, values-all, before-end, chosen-columns, chosen-size, walk-in, walk-past, half-falls}
 use Rattle.masks.proofs.Walks as walks
 use Rattle.putback.specs.Internal.{sets_of, with, without, unite, At}

@@ -8,19 +8,19 @@ use limits::{INPUT_ROOM, LONGEST_REPORT};
 use streams::Input;
 
 // The one place that writes to standard output. What was read is handed over for the contract alone: the text has to be the report of the whole input.
-fn print(file: &[u8], input: Input, text: &[u8])
+fn print(rt: &(impl Print + Eprint), file: &[u8], input: Input, text: &[u8])
     requires { Prints report_of file.now input text.now }
 {
-    streams::write_output(text);
+    streams::write_output(rt, text);
 }
 
-fn main() {
+fn main(rt: HostRuntime) {
     let mut file = [0u8; INPUT_ROOM];
     let mut text = [0u8; LONGEST_REPORT];
-    let input = streams::read_input(&mut file);
+    let input = streams::read_input(&rt, &mut file);
     if input.whole {
         let n = input.length;
         let length = rendering::report(&file[..n], &mut text).length;
-        print(&file, input, &text[..length]);
+        print(&rt, &file, input, &text[..length]);
     }
 }

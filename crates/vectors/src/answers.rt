@@ -54,8 +54,8 @@ fn places(p: Pen, f: FullRun) -> Pen {
 }
 
 // A line of a full run: the refusal, the steps, how many are rejected; then each place of its lists.
-pub(crate) fn full_run(room: usize, f: FullRun) -> Pen {
-    let p = pen::start(b"run", room, f.refusal as usize);
+pub(crate) fn full_run(rt: HostRuntime, room: usize, f: FullRun) -> Pen {
+    let p = pen::start(rt, b"run", room, f.refusal as usize);
     let decisions = f.decisions;
     let q = pen::put(
         pen::put(p, f.steps),

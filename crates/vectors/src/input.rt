@@ -2,7 +2,7 @@
 ghost use Rattle.std.specs.Prelude.{◌<◌};
 ghost use Rattle.vectors.specs.Parts.{Within};
 
-use libc::STDIN_FILENO;
+use std::io::Read;
 
 pub(crate) fn wide(x: u8) -> usize
     ensures { result < 256 }
@@ -10,29 +10,29 @@ pub(crate) fn wide(x: u8) -> usize
     x as usize
 }
 
-fn byte() -> usize
+fn byte(rt: HostRuntime) -> usize
     ensures { result < 256 }
 {
     let mut b = [0u8; 1];
-    io::read_full(STDIN_FILENO, &mut b);
+    let _ = rt.stdin().read_exact(&mut b);
     wide(b[0])
 }
 
 // The remainder, since the number has 64 bits whatever the input holds.
-pub(crate) fn word() -> usize {
-    let mut left = byte();
+pub(crate) fn word(rt: HostRuntime) -> usize {
+    let mut left = byte(rt);
     let mut n: usize = 0;
     while 0 < left {
-        n = n % 72057594037927936 * 256 + byte();
+        n = n % 72057594037927936 * 256 + byte(rt);
         left -= 1;
     }
     n
 }
 
 // The next number where there is one, or else n.
-pub(crate) fn word_or(more: bool, n: usize) -> usize {
+pub(crate) fn word_or(rt: HostRuntime, more: bool, n: usize) -> usize {
     if more {
-        return word();
+        return word(rt);
     }
     n
 }

@@ -13,53 +13,53 @@ mod tables; // cases of a lent table: full runs, balanced ones, and places of a 
 mod trials; // trials in the input and in the output
 
 // A case of a table, which the input tells first.
-fn over_table(kind: usize, cells: &mut [f64], work: &mut [f64]) {
-    tables::load(cells);
+fn over_table(rt: HostRuntime, kind: usize, cells: &mut [f64], work: &mut [f64]) {
+    tables::load(rt, cells);
     match kind {
-        4 => tables::answer(cells, work),
-        5 => steps::answer_begin(cells),
-        6 => steps::answer(cells, work),
-        8 => tables::answer_balanced(cells, work),
-        _ => tables::answer_look(cells),
+        4 => tables::answer(rt, cells, work),
+        5 => steps::answer_begin(rt, cells),
+        6 => steps::answer(rt, cells, work),
+        8 => tables::answer_balanced(rt, cells, work),
+        _ => tables::answer_look(rt, cells),
     }
 }
 
 // The first case is the seed of the generated ones, as the input tells it.
-fn answer(kind: usize, bytes: &mut [u8], cells: &mut [f64], work: &mut [f64]) {
+fn answer(rt: HostRuntime, kind: usize, bytes: &mut [u8], cells: &mut [f64], work: &mut [f64]) {
     match kind {
-        1 => pen::end(pen::start(b"seed", 1, input::word())),
-        2 => files::answer(bytes),
-        3 => records::answer(bytes, cells, work),
-        _ => over_table(kind, cells, work),
+        1 => pen::end(pen::start(rt, b"seed", 1, input::word(rt))),
+        2 => files::answer(rt, bytes),
+        3 => records::answer(rt, bytes, cells, work),
+        _ => over_table(rt, kind, cells, work),
     }
 }
 
 // A case: its kind, the rooms of the buffers that are lent, and what its kind needs. Each place of a buffer holds 7; the cells are
 // told by the case.
-fn lend(kind: usize, space: &mut [f64]) {
+fn lend(rt: HostRuntime, kind: usize, space: &mut [f64]) {
     let mut bytes = [7u8; 3072];
     let mut work = [7.0f64; 4104];
-    let k = input::bytes_of(input::word(), &bytes);
-    let n = input::values_of(input::word(), space);
-    let m = input::values_of(input::word(), &work);
-    answer(kind, &mut bytes[..k], &mut space[..n], &mut work[..m]);
+    let k = input::bytes_of(input::word(rt), &bytes);
+    let n = input::values_of(input::word(rt), space);
+    let m = input::values_of(input::word(rt), &work);
+    answer(rt, kind, &mut bytes[..k], &mut space[..n], &mut work[..m]);
 }
 
 // One case. False where the input has ended.
-fn one(space: &mut [f64]) -> bool {
-    let kind = input::word();
+fn one(rt: HostRuntime, space: &mut [f64]) -> bool {
+    let kind = input::word(rt);
     if kind == 0 {
         return false;
     }
-    lend(kind, space);
+    lend(rt, kind, space);
     true
 }
 
 // Cases until the input ends.
-fn every_case(space: &mut [f64]) {
+fn every_case(rt: HostRuntime, space: &mut [f64]) {
     let mut left: u32 = 1000000;
     while 0 < left {
-        if one(space) {
+        if one(rt, space) {
             left -= 1;
         } else {
             left = 0;
@@ -68,7 +68,7 @@ fn every_case(space: &mut [f64]) {
 }
 
 // Room for the largest table: 4,096 rows of 33 columns.
-fn main() {
+fn main(rt: HostRuntime) {
     let mut space = [0.0f64; 135168];
-    every_case(&mut space);
+    every_case(rt, &mut space);
 }

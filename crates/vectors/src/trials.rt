@@ -65,47 +65,47 @@ pub(crate) fn print(p: Pen, t: Trial) -> Pen {
 }
 
 // So many figures stand in the input; the others are zero.
-fn read_figures() -> [i32; FIGURES_MOST] {
-    let given = input::word();
+fn read_figures(rt: HostRuntime) -> [i32; FIGURES_MOST] {
+    let given = input::word(rt);
     let mut xs = [0i32; FIGURES_MOST];
     let mut i: usize = 0;
     while i < FIGURES_MOST {
-        xs[i] = figure(input::word_or(i < given, 2147483648));
+        xs[i] = figure(input::word_or(rt, i < given, 2147483648));
         i += 1;
     }
     xs
 }
 
-fn read_layout() -> Design {
-    let kind = input::word();
-    let units = input::word();
-    let treated = input::word();
+fn read_layout(rt: HostRuntime) -> Design {
+    let kind = input::word(rt);
+    let units = input::word(rt);
+    let treated = input::word(rt);
     if kind == 2 {
         return Design::Paired(units);
     }
     Design::Unpaired(units, treated)
 }
 
-pub(crate) fn read() -> Trial {
+pub(crate) fn read(rt: HostRuntime) -> Trial {
     let mut codes = [0u32; OFFERS_MOST];
     let mut digits = [0u8; OFFERS_MOST];
     let mut i: usize = 0;
     while i < OFFERS_MOST {
-        codes[i] = (input::word() % 4294967296) as u32;
-        digits[i] = (input::word() % 256) as u8;
+        codes[i] = (input::word(rt) % 4294967296) as u32;
+        digits[i] = (input::word(rt) % 256) as u8;
         i += 1;
     }
     Trial {
         level: Level {
-            a: input::word(),
-            b: input::word(),
+            a: input::word(rt),
+            b: input::word(rt),
         },
         shape: Shape {
-            k: input::word(),
-            offers: input::word(),
-            design: read_layout(),
+            k: input::word(rt),
+            offers: input::word(rt),
+            design: read_layout(rt),
         },
         labels: Labels { codes, digits },
-        figures: read_figures(),
+        figures: read_figures(rt),
     }
 }

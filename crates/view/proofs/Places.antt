@@ -16,7 +16,6 @@ use Rattle.order.specs.Lists.{rows_of}
 use Rattle.order.proofs.Lists.{row-entry}
 use Rattle.order.proofs.Lists.{part-rows}
 use Rattle.view.specs.Entries.{entry_of}
-use Rattle.view.specs.declared.Entry.{Entry}
 use Rattle.view.specs.declared.Entry.TheVariants.{Value, Outside}
 
 module _ (xs : List Float) (rows columns row column : ℕ) where
