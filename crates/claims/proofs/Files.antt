@@ -1,6 +1,6 @@
 -- Files through the calls: what the writer leaves is read back, and what is read is written again.
 --   file-written       an accepted trial in a buffer that is long enough
---   write-back, read-back      the two round trips, through the lent buffer
+--   write-back, read_back      the two round trips, through the lent buffer
 use Prim.Native.Nat.{ℕ, ◌≤◌}
 use native.Mathlib.Omega.{arith}
 use mathlib.Core.Path.{◌≡◌, refl, sym, ap, ◌∙◌, subst}

@@ -1,5 +1,5 @@
 -- The count by marks is the count by k-max values; and where the count by maxima tells, no marks are made.
---   needed-marks     `neededIn` of the marks by v is `needed` for v
+--   needed-marks     `needed_in` of the marks by v is `needed` for v
 --   raising-counts   what the count asks for
 --   raised-one, raised-bounded, raised-counted     the larger of a figure and the count that is needed: for k = 1, where the bound tells, and by marks
 use Prim.Native.Nat.{ℕ, ◌-◌, ◌≤◌, ◌<◌, max}

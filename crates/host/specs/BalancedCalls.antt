@@ -1,7 +1,7 @@
 -- The calls for hosts written in C over balanced tables, of a table and of a trial file (document 02, §3). Definitions only.
 --   table_balanced_answer t rows columns places   what the call for the balanced table of a table returns: 0, or 100 plus the refusal number
 --   trial_balanced_verdicts_answer bytes places, trial_balanced_verdicts_buffer bytes buf  what the call for the balanced run of a file returns, and its buffer afterwards
--- The buffer of the first is `balanceBuffer` (tablebalance/specs/Answers.antt); a file is refused as for the plain run: `trialVerdictsChecks` (Calls.antt).
+-- The buffer of the first is `balance_buffer` (tablebalance/specs/Answers.antt); a file is refused as for the plain run: `trial_verdicts_checks` (Calls.antt).
 use Rattle.std.specs.Prelude.{ℕ, ◌+◌, List, length, Float}
 use Rattle.refusals.specs.Answers.{answer}
 use Rattle.verdicts.specs.Verdicts.{rejected_count}

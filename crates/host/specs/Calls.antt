@@ -1,5 +1,5 @@
 -- The calls for hosts written in C: on a trial file (document 01, "Report and C call"), and in the same style on a table. Definitions only.
---   verdict_bytes n ds       the first n verdicts, a byte each (`verdictByte`): the rejecting step, 0 for kept, 255 for set aside (document 02, §4)
+--   verdict_bytes n ds       the first n verdicts, a byte each (`verdict_byte`): the rejecting step, 0 for kept, 255 for set aside (document 02, §4)
 --   verdicts_answer cs n ds  what a call that tells verdicts returns, refused by the conditions cs or with the verdicts ds of n offers: the number of rejected, or 100 plus the refusal number
 --   verdicts_buffer cs n ds buf    its buffer afterwards: the verdict of each offer in its first bytes
 --   file_offers bytes        how many offers the trial of a file has

@@ -3,7 +3,7 @@
 --   and-size           those that two masks share
 --   lowest-empty, lowest-out     a mask without its lowest column
 --   fewer-none, fewer-one        the same where t is below k
---   left-over          at least k columns: one is left without k - 1 of them
+--   left_over          at least k columns: one is left without k - 1 of them
 use Prim.Native.Nat.{ℕ, zero, suc, ◌+◌, ◌-◌, ◌*◌, ◌/◌, ◌%◌, ◌^◌, ◌≤◌, ◌<◌, min}
 use native.Mathlib.Omega.{arith}
 use native.Mathlib.Nat.{pow-suc}

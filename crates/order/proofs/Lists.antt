@@ -2,7 +2,7 @@
 --   get_d_map            a member of a mapped list; both-same: two lists are the same whose members are
 --   tabulate-..         the members of a tabulated list; all-tabulate: what holds of each holds of all
 --   all_take, all_drop  what holds of all members holds of some
---   part-rows, rowsOf-..     the rows of a list: how many, how long, which, what their members pass
+--   part-rows, rows_of-..    the rows of a list: how many, how long, which, what their members pass
 --   joined-..          rows that are joined: how many members, and what they pass; rows_of-joined: taken apart again
 --   set-padded          an array that is filled from the front
 use Prim.Native.Nat.{ℕ, zero, suc, ◌+◌, ◌-◌, ◌*◌, ◌≤◌, ◌<◌}

@@ -1,5 +1,5 @@
 -- A report takes no notice of what comes after one byte more than the longest file.
---   cut_off, balanced-cut-off     the report of the first `inputRoom` bytes is the report of them all
+--   cut_off, balanced-cut-off     the report of the first `input_room` bytes is the report of them all
 use Prim.Native.Nat.{ℕ}
 use mathlib.Core.Path.{◌≡◌}
 use mathlib.Core.List.{List}

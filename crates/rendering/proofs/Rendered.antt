@@ -1,7 +1,7 @@
 -- Laws of the call that renders a report.
 --   rendered-by                   what giving a report into a buffer answers and leaves there
 --   rendered-within               the answered length is within the buffer
---   rendered-whole, balanced-whole     a buffer of `longestReport` places holds every text whole
+--   rendered-whole, balanced-whole     a buffer of `longest_report` places holds every text whole
 use Prim.Native.Nat.{ℕ, ◌≤◌}
 use native.Mathlib.Omega.{arith}
 use mathlib.Core.Path.{◌≡◌}
@@ -25,7 +25,7 @@ pub rendered-within : (bytes : List ℕ) (places : ℕ) → (rendering_of bytes 
 unfolding rendering_of
 rendered-within bytes places = text-within (report_of bytes) places
 
--- what a caller finds in a buffer of `longestReport` places is the whole text
+-- what a caller finds in a buffer of `longest_report` places is the whole text
 pub rendered-whole : (bytes buf out : List ℕ) (r : Rendering) → longest_report ≤ length buf → r ≡ rendering_of bytes (length buf) → out ≡ after_rendering bytes buf → take r.length out ≡ report_of bytes
 unfolding rendering_of after_rendering
 rendered-whole bytes buf out r h p q = text-whole (report_of bytes) buf out r (omega (arith, report-fits bytes)) p q

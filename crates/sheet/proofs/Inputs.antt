@@ -1,5 +1,5 @@
 -- A sheet takes no notice of what comes after one byte more than the longest file.
---   cut_off        the sheet of the first `inputRoom` bytes is the sheet of them all
+--   cut_off        the sheet of the first `input_room` bytes is the sheet of them all
 use Prim.Native.Nat.{ℕ}
 use mathlib.Core.Path.{◌≡◌}
 use mathlib.Core.List.{List}

@@ -1,6 +1,6 @@
 -- How long a sheet can be.
 --   sheet-fits      every text is at most that long
---   sheet-whole     a buffer of `longestSheet` places holds every text whole
+--   sheet-whole     a buffer of `longest_sheet` places holds every text whole
 use Prim.Native.Nat.{ℕ, ◌*◌, ◌≤◌}
 use native.Mathlib.Omega.{arith}
 use mathlib.Core.Path.{◌≡◌}

@@ -2,7 +2,7 @@
 --   drop-take                        what is taken after so many members
 --   by_offer-figures, by_offer-length  the figures of each offer, in the array, and of how many
 --   entries-small, row_of-all        the entries of a row are at most 2^53, and what holds of such numbers holds of its values
---   rowOf-.., trialRows-..           how long rows are, how many, which; those of an accepted trial are finite
+--   row_of-.., trial_rows-..         how long rows are, how many, which; those of an accepted trial are finite
 --   even-rows, table_of-rows         the lent table has these rows
 --   row_total-some                   there is a row
 --   table_of-length                  a table has M * offers places

@@ -2,7 +2,7 @@
 --   rejected_of t e i    the method at e rejects offer i (from 0): on the trial's table over the offers that are not set aside (document 02, §4), with row 0 observed and its own k
 --   trial_figures t      the adjusted figures of its offers: those of its table's columns in the same way
 --   trial_figures_answer t places work   what the call answers, with a table buffer and a work buffer of so many places; it is refused as a full run is
--- What the lent buffers hold afterwards is as for a full run: `runTable`, `runWork` (trialrun/specs/TrialRuns.antt).
+-- What the lent buffers hold afterwards is as for a full run: `run_table`, `run_work` (trialrun/specs/TrialRuns.antt).
 use Rattle.std.specs.Prelude.{ℕ, Bool, List}
 use Rattle.refusals.specs.Answers.{answer}
 use Rattle.adjustment.specs.Adjusted.{rejected_at, adjusted_figures}

@@ -3,7 +3,7 @@
 --   trial_balanced_run t              its full run from the state that the plain run begins with: offers are set aside by the trial's figures, not by their ranks
 --   trial_balanced_answer t places work   what the call answers, with a table buffer and a work buffer of so many places; it is refused as the plain run is
 --   run_balanced t table work         the table buffer after it: the balanced table in its first places
--- What the work buffer holds afterwards is as for the plain run: `runWork` (trialrun/specs/TrialRuns.antt).
+-- What the work buffer holds afterwards is as for the plain run: `run_work` (trialrun/specs/TrialRuns.antt).
 use Rattle.std.specs.Prelude.{ℕ, List, length, Float}
 use Rattle.refusals.specs.Answers.{answer, afterwards}
 use Rattle.refusals.specs.Buffers.{written}

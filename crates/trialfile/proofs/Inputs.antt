@@ -1,6 +1,6 @@
 -- What is said of a file takes no notice of what comes after one byte more than the longest file; and what is known of the labels of an accepted one.
 --   too_long       a longer input is refused by 1
---   file-cut       what is answered for the first `inputRoom` bytes is what is answered for them all
+--   file-cut       what is answered for the first `input_room` bytes is what is answered for them all
 --   printed        what it is for an offer to pass 5
 --   digits-few     the printed digits of an accepted trial's offers are few
 use Prim.Native.Nat.{ℕ, ◌%◌, ◌^◌, ◌≤◌, ◌<◌}

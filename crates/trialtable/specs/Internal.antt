@@ -47,7 +47,7 @@ first_step (Unpaired shops treated) = 1
 abbrev pub Reached : Design → ℕ → Type 0
 Reached d j = (first_step d ≤ j) × (j < units_of d)
 
--- in an array that has a row of `offersMost` places for each j
+-- in an array that has a row of `offers_most` places for each j
 abbrev pub TakenOff : Design → ℕ → List ℤ → List Float → ℕ → Type 0
 TakenOff d offers xs off j = (i : ℕ) → i < offers → get_or off (offers_most * j + i) nan ≡ of_int binary64 (taken_off d j (take (units_of d) (drop (i * units_of d) xs)))
 

@@ -1,4 +1,4 @@
--- The number that tells a verdict (`verdictByte`): a run takes at most 32 steps, numbered from 1.
+-- The number that tells a verdict (`verdict_byte`): a run takes at most 32 steps, numbered from 1.
 --   Tells v            it fits a byte; it is from 1 to 32 exactly where the verdict is rejected, and 255 exactly where the column is set aside
 --   run-tells          so of each verdict of a run that begins with no step taken
 --   run-bytes          and all of them fit a byte

@@ -1,4 +1,4 @@
--- `offers`: the invariant is the text of the lines so far, each of at most `sheetLineMost` bytes.
+-- `offers`: the invariant is the text of the lines so far, each of at most `sheet_line_most` bytes.
 use Rattle.limits.specs.Limits.{offers_most, sheet_line_most, longest_sheet}
 use Rattle.text.specs.Text.{lines_to}
 use Rattle.text.specs.Writes.{Wrote, FewDigits}

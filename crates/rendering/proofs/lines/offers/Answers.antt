@@ -1,4 +1,4 @@
--- `offers`: the invariant is the text of the lines so far, each of at most `offerLineMost` bytes.
+-- `offers`: the invariant is the text of the lines so far, each of at most `offer_line_most` bytes.
 use Rattle.text.specs.Text.{lines_to}
 use Rattle.text.proofs.Writes.{wrote_none, then, wrote_as}
 use Rattle.text.proofs.Lines.{lines_more, lines-all, ends}

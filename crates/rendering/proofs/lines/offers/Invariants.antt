@@ -1,4 +1,4 @@
--- `offers`: the invariant is the text of the lines so far, each of at most `offerLineMost` bytes.
+-- `offers`: the invariant is the text of the lines so far, each of at most `offer_line_most` bytes.
 use Rattle.limits.specs.Limits.{offers_most, offer_line_most, steps_end, longest_report}
 use Rattle.text.specs.Text.{lines_to}
 use Rattle.text.specs.Writes.{Wrote, FewDigits}

@@ -1,4 +1,4 @@
--- `steps`: the invariant is the text of the lines so far, each of at most `stepLineMost` bytes.
+-- `steps`: the invariant is the text of the lines so far, each of at most `step_line_most` bytes.
 use Rattle.text.specs.Text.{lines_to}
 use Rattle.text.proofs.Writes.{wrote_none, then, wrote_as}
 use Rattle.text.proofs.Lines.{lines_more, lines-all, ends}

@@ -1,4 +1,4 @@
--- `steps`: the invariant is the text of the lines so far, each of at most `stepLineMost` bytes.
+-- `steps`: the invariant is the text of the lines so far, each of at most `step_line_most` bytes.
 use Rattle.limits.specs.Limits.{offers_most, head_most, step_line_most, longest_report}
 use Rattle.text.specs.Text.{lines_to}
 use Rattle.text.specs.Writes.{Wrote, FewDigits}
