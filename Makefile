@@ -14,10 +14,12 @@
 #               The functions of both start at multiples of 64 bytes, so that an edit elsewhere moves no time
 .PHONY: run sheet balanced lesson lesson-test test vectors host bench
 SHELL = bash
+# for any x86-64: the kit compiles for x86-64-v2 otherwise
+any = --cpu=x86-64
 # proves and builds a program, copies it to target/bin, and tells each crate as it is proved
-prove = mkdir -p target/bin && set -o pipefail && { (cd crates/$(1) && rt run $(1) < /dev/null) 2>&1 | tee target/run.log | sed -nu '/^crate /{ s/^crate \([^:]*\):.*/\1 proved/; h }; /^logic=proved/{ g; p }' >&2 && cp crates/$(1)/out/$(1) target/bin/; } || { cat target/run.log >&2; exit 1; }
+prove = mkdir -p target/bin && set -o pipefail && { (cd crates/$(1) && rt run $(1) $(any) < /dev/null) 2>&1 | tee target/run.log | sed -nu '/^crate /{ s/^crate \([^:]*\):.*/\1 proved/; h }; /^logic=proved/{ g; p }' >&2 && cp crates/$(1)/out/$(1) target/bin/; } || { cat target/run.log >&2; exit 1; }
 # proves the static library of a library's calls for C, and copies it to target/staticlib under the library's name
-archive = mkdir -p target/staticlib && (cd crates/$(1)_c && rt lib $(1)_c) && cp crates/$(1)_c/out/lib$(1)_c.a target/staticlib/lib$(1).a
+archive = mkdir -p target/staticlib && (cd crates/$(1)_c && rt lib $(1)_c $(any)) && cp crates/$(1)_c/out/lib$(1)_c.a target/staticlib/lib$(1).a
 
 run:
 	@$(call prove,report)

@@ -3,7 +3,7 @@
  * the adjusted figure of each offer: the least allowance at which it would be rejected; and both over balanced tables, in
  * which every offer is weighed against its own rows alone.
  *
- * Link with libhost.a and the C library, on x86-64-v2 Linux. The functions are proved to return, to read and write nothing
+ * Link with libhost.a and the C library, on x86-64 Linux. The functions are proved to return, to read and write nothing
  * but what is said here, and to answer what their definitions give. In return each pointer has to reach as many places
  * as the length beside it says, and a buffer that is written overlaps nothing else that is handed over. A pointer whose
  * length is 0 is not used, and may be null.

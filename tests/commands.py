@@ -7,6 +7,8 @@ import subprocess
 from pathlib import Path
 
 ROOT = Path(__file__).resolve().parent.parent
+# For any x86-64: the kit compiles for x86-64-v2 otherwise.
+ANY = "--cpu=x86-64"
 
 
 def run(*words, cwd=ROOT) -> None:
@@ -28,14 +30,14 @@ def program(name: str) -> None:
     In the gate `rt ci` has just proved and built it (run.sh says so).
     """
     if "BUILT_BY_CI" not in os.environ:
-        rt("run", name, cwd=ROOT / "crates" / name)
+        rt("run", name, ANY, cwd=ROOT / "crates" / name)
     copied(ROOT / "crates" / name / "out" / name, ROOT / "target" / "bin" / name)
 
 
 def archive(name: str) -> None:
     """Proves and builds the static library of a library's calls for C, and copies it to target/staticlib under the library's name."""
     folder = ROOT / "crates" / f"{name}_c"
-    rt("lib", f"{name}_c", cwd=folder)
+    rt("lib", f"{name}_c", ANY, cwd=folder)
     copied(folder / "out" / f"lib{name}_c.a", ROOT / "target" / "staticlib" / f"lib{name}.a")
 
 

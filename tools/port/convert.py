@@ -15,9 +15,9 @@ text
   derives    #[derive(Drop)] (port.py's) on a struct or enum of plain fields becomes #[derive(Clone, Copy)]: to a fixed point over all crates.
              A field is plain if its type is a number, bool, char, a &T without mut, a tuple or array of plain types, or a plain type of the repository.
   tactic     #![tactic(auto)] below the first comment of each root file.
-  names      each name declared in specs/ or proofs/ in lowerCamelCase (also with a dash, as bitsOf-length) becomes snake_case in every .antt, .rt and .md
-             below crates/, docs/ and README.md: as a whole word, strings left alone. A name whose new form is declared in the same file gets the
-             form in CLASH below. Functions of src/ keep their names: a definition and a function of one name do not meet (clauses do not name functions).
+  names      each name declared in specs/ or proofs/ in lowerCamelCase (also with a dash, as bitsOf-length) becomes snake_case in every .antt and .rt
+             below crates/: as a whole word, strings left alone. In backticks, in comments and pages, a name is not turned: that was done by hand.
+             A name whose new form is declared in the same file gets the form in CLASH below. Functions of src/ keep their names: a definition and a function of one name do not meet (clauses do not name functions).
   edits      each edit's old: text is looked up in LANDED's file and followed, token by token, to today's file; what new: changes is spelled by the
              words that were seen to turn in that file and in the crates. Edits that still stand are left alone. The rest are listed.
 
