@@ -191,6 +191,11 @@ class FailedWrites(Processes):
         with open("/dev/null", "rb") as null:
             self.writes(errno.EBADF, stdout=null)
 
+    def test_nobody_reads(self):
+        gone, stdout = self.pipe()
+        os.close(gone)
+        self.writes(errno.EPIPE, stdout=stdout)
+
 
 class Waiting(Processes):
     def late_input(self, blocking, **more):

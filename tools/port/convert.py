@@ -7,7 +7,7 @@ usage, at the top of the repository (a git checkout):
     rt names NAMES                     (4 to 6 minutes for 44 crates; or `rt check --generated NAMES/crates/C --old-names` in one crate)
     convert.py proofs NAMES [CRATE..]  Proof.antt -> Invariants.antt and Answers.antt
     convert.py edits LANDED [CRATE..]  the must-fail edits alone, again (after sources or specs were mended by hand)
-    convert.py check                   lists the edits whose old: text does not stand exactly once, and names that fall together
+    convert.py check                   lists the edits whose old: text does not stand exactly once, names in camel case, and parameters that hide a word
 
 LANDED is the commit that the edits were written for. No CRATE: all crates. Files are rewritten in place: commit first.
 

@@ -1,5 +1,5 @@
 -- Laws of a layout as numbers.
---   numbers_of              the numbers of a layout whose case is known
+--   numbers-of              the numbers of a layout whose case is known
 --   one_by_one              they are the three that the code hands out
 --   of-pairs, of-shops      the layout of numbers, by the kind
 --   laid-out-as             the trial of numbers and arrays
@@ -14,8 +14,8 @@ use Rattle.trial.specs.declared.Design.{Design}
 use Rattle.trial.specs.declared.Design.TheVariants.{Paired, Unpaired}
 use Rattle.benchcalls.specs.Calls.{layout_numbers, design_from, trial_from}
 
-pub numbers_of : (d e : Design) → d ≡ e → layout_numbers e ≡ layout_numbers d
-numbers_of d e q = ap layout_numbers (sym q)
+pub numbers-of : (d e : Design) → d ≡ e → layout_numbers e ≡ layout_numbers d
+numbers-of d e q = ap layout_numbers (sym q)
 
 -- the three of them, taken one by one
 three : (d : Design) → get_or (layout_numbers d) 0 0 ∷ get_or (layout_numbers d) 1 0 ∷ get_or (layout_numbers d) 2 0 ∷ [] ≡ layout_numbers d
