@@ -30,7 +30,7 @@ use Rattle.columns.proofs.Masks.{columns_of-length}
 use Rattle.runs.specs.Stepdown.{first_state}
 use Rattle.runs.specs.FullRuns.{is_rejected}
 use Rattle.runs.specs.declared.Verdict.TheVariants.{Kept}
-use Rattle.runs.proofs.Told.{verdict-aside}
+use Rattle.runs.proofs.ToldColumns.{verdict-aside}
 use Rattle.runs.proofs.RejectedSets.{rejected_set_at}
 use Rattle.runs.proofs.RejectedVerdicts.{verdict-at, too-few-none}
 use Rattle.runs.proofs.Loosening.{loosening}

@@ -1,4 +1,4 @@
--- Adjusted figures (document 02, §1): the allowance at which a column enters the list. In the field: adjusted p-values, times M. Definitions only.
+-- Adjusted figures: the allowance at which a column enters the list. In the field: adjusted p-values, times M. Definitions only.
 --   least_below n p     the least number below n that passes a test, and n where none does
 --   rejected_at X rows columns k observed live e j    the method at e, on the rows X of a table, rejects column j
 --   adjusted_figure X rows columns k observed live j  column j's figure: the least e from 0 to M - 1 at which it does, or M

@@ -2,7 +2,7 @@
 --   Tied            a table of 3 rows and 2 columns, whose row 0 has a minus zero before a zero
 --   Example         what is asked and what is told
 --   by_maxima t rows columns o, by_k_max k t rows columns o  the figures of a table by each pass, row o being observed
---   examples        all of them: W's and P's of document 01 and those of Tied, by the definition and by the passes; and which of equal values is passed first
+--   examples        all of them: W's and P's and those of Tied, by the definition and by the passes; and which of equal values is passed first
 use Rattle.std.specs.Prelude.{ℕ, true, false, List, [], ◌∷◌, pos, Float}
 use Rattle.std.specs.Float.{fin}
 use Rattle.order.specs.Order.{plus_zero}

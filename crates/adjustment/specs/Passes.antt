@@ -1,7 +1,7 @@
 -- The adjusted figures by one pass down the observed values, largest first, the lower position first among equals. Definitions only.
 --   first_reaching A row v    the lowest column of A whose value in the row is at least v
 --   top_column A row          the column of A with the largest value in the row, the lowest one among equals
--- For k = 1, as document 02 words it:
+-- For k = 1:
 --   maximum_from n X row A m fs   the figures fs after the pass over the n columns of A, those not yet passed; m is the running maximum so far
 --   maximum_pass X live o         each column's figure, row o being observed; M for a column that is not live
 -- For every k:

@@ -1,26 +1,36 @@
 // The program that prints balanced reports: a trial file on standard input, its balanced report or its refusal on standard output, and nothing else.
 #![tactic(auto)]
 
+ghost use Rattle.std.specs.Prelude.{IfErr, IfSome, OnOk};
+ghost use Rattle.std.specs.Io.KnownBytes.{Appends};
 ghost use Rattle.rendering.specs.Reports.{balanced_report_of};
-ghost use Rattle.streams.specs.Programs.{Prints};
+ghost use Rattle.streams.specs.Programs.{Silent};
 
 use limits::{INPUT_ROOM, LONGEST_REPORT};
-use streams::Input;
+use std::io;
+use std::io::{Read, Write};
+use streams::{Failure, Tell};
 
-// The one place that writes to standard output. What was read is handed over for the contract alone: the text has to be the balanced report of the whole input.
-fn print(rt: &(impl Print + Eprint), file: &[u8], input: Input, text: &[u8])
-    requires { Prints balanced_report_of file.now input text.now }
+struct Balanced;
+
+impl Tell for Balanced {
+    ghost told = { balanced_report_of };
+
+    fn tell(&self, file: &[u8], out: &mut [u8]) -> usize {
+        rendering::balanced_report(file, out).unwrap_or(0)
+    }
+}
+
+// The balanced report of the whole input, from any reader to any writer.
+fn run<R: Read, W: Write>(reader: &mut R, writer: &mut W) -> Result<(), Failure>
+    ensures told { OnOk result (IfSome (R.remaining reader.old) (λ input. Appends (W.contents writer.old) (W.contents writer.new) (balanced_report_of input))) }
+    ensures silent { IfErr result (λ failure. Silent failure (W.contents writer.old) (W.contents writer.new)) }
 {
-    streams::write_output(rt, text);
+    let mut file = [0u8; INPUT_ROOM];
+    let mut text = [0u8; LONGEST_REPORT];
+    streams::run(&Balanced, reader, writer, &mut file, &mut text)
 }
 
 fn main(rt: HostRuntime) {
-    let mut file = [0u8; INPUT_ROOM];
-    let mut text = [0u8; LONGEST_REPORT];
-    let input = streams::read_input(&rt, &mut file);
-    if input.whole {
-        let n = input.length;
-        let length = rendering::balanced_report(&file[..n], &mut text).length;
-        print(&rt, &file, input, &text[..length]);
-    }
+    streams::tell_failure(&rt, run(&mut rt.reader(), &mut io::writer(&rt)));
 }

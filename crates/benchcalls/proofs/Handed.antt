@@ -1,18 +1,27 @@
--- An answer that holds its number, and its parts, each handed out into a lent place.
---   handed-number      the number is that of the first condition to hold
---   handed-nothing     where the call is refused, a place that is left alone is as it has to be
---   handed_out         where it is accepted, a place that holds a part of the answer is
+-- What comes of an answer: its number, and its parts, each handed out into a lent place.
+--   handed_zero, handed_out        where it is accepted: 0, and a place that holds a part of it is as it has to be
+--   handed-number, handed-nothing  where it is refused: the number, and so is a place that is left alone
 use Prim.Native.Nat.{ℕ}
 use mathlib.Core.Path.{◌≡◌, sym, ap, ◌∙◌}
-use Rattle.refusals.specs.Answers.{Checks, answer, first_refusal, afterwards}
-use Rattle.refusals.proofs.Answers.{accepted, refused, answer-map}
+use Rattle.std.proofs.Common.{Ok, Err}
+use Rattle.refusals.specs.Answers.{Checks, number, outcome, first_refusal, afterwards}
+use Rattle.refusals.specs.declared.refusal.Refusal.{Refusal}
+use Rattle.refusals.proofs.Answers.{none_first, outcome-ok, ok-none, outcome-first, ok_answer, err_answer}
 
-module _ {X : Type 0} (number : X → ℕ) (cs : Checks) (done : X) (refusing : ℕ → X) (q : answer cs (number done) (λ n. number (refusing n)) ≡ first_refusal cs) (x : X) (e : x ≡ answer cs done refusing) where
-  pub handed-number : number x ≡ first_refusal cs
-  handed-number = ap number e ∙ answer-map number cs done refusing ∙ q
+module _ {X : Type 0} (cs : Checks) (done : X) where
+  module _ (y : X) (e : Ok y ≡ outcome cs done) where
+    pub handed_zero : 0 ≡ first_refusal cs
+    handed_zero = sym (none_first cs (ok-none cs done y (sym e)))
 
-  pub handed-nothing : {A : Type 0} (part : X → A) (old : A) → (number x ≡ 0 → ⊥) → old ≡ afterwards cs (part done) old
-  handed-nothing part old f = refused (part done) (λ _. old) cs (number x) handed-number f
+    pub handed_out : {A : Type 0} (part : X → A) (old : A) → part y ≡ afterwards cs (part done) old
+    handed_out part old =
+        let k = outcome-ok cs done (ok-none cs done y (sym e)) in
+        let q : y ≡ done = cc in
+        ap part q ∙ sym (ok_answer cs done y (part done) (λ _. old) (sym e))
 
-  pub handed_out : {A : Type 0} (part : X → A) (old : A) → number x ≡ 0 → part x ≡ afterwards cs (part done) old
-  handed_out part old z = ap part (e ∙ sym (accepted done refusing cs (number x) handed-number z)) ∙ accepted (part done) (λ _. old) cs (number x) handed-number z
+  module _ (r : Refusal) (e : Err r ≡ outcome cs done) where
+    pub handed-number : (n : ℕ) → n ≡ number r → n ≡ first_refusal cs
+    handed-number n q = q ∙ sym (outcome-first cs done r (sym e))
+
+    pub handed-nothing : {A : Type 0} (part : X → A) (old : A) → old ≡ afterwards cs (part done) old
+    handed-nothing part old = sym (err_answer cs done r (part done) (λ _. old) (sym e))

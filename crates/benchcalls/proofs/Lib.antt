@@ -1,4 +1,4 @@
 pub mod Handed
-pub mod Taking
+pub mod Mapped
 pub mod Layouts
 pub mod Calls

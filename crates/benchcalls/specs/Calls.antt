@@ -5,7 +5,7 @@
 --   numbers_of t             a, b, k, offers and the layout of a trial
 --   codes_of t, digits_of t, figures_of t   its arrays
 --   trial_from ns codes digits figures     the trial of these numbers and arrays
---   logged_in ms, byte_of_decision d           records, field by field; the number that tells a verdict
+--   logged_in ms             records, field by field
 --   steps_in f, criticals_in f, bar_rows_in f, bar_offers_in f, counts_in f, verdicts_of f  parts of a full run: how many steps, critical values, the rows and the
 --                                              offers that set them, counts, verdicts as numbers
 --   from_file part bytes old             a place after `bench_read`: a part of the file's trial
@@ -17,7 +17,6 @@ use Rattle.refusals.specs.Answers.{answer, afterwards}
 use Rattle.runs.specs.FullRuns.{accepted_run}
 use Rattle.runs.specs.Tables.{table_run}
 use Rattle.runs.specs.declared.Record.{Record}
-use Rattle.runs.specs.declared.Decision.{Decision}
 use Rattle.runs.specs.declared.FullRun.{FullRun}
 use Rattle.stepdown.specs.Refusals.{table_checks, table_run_checks}
 use Rattle.verdicts.specs.Verdicts.{verdict_byte}
@@ -65,9 +64,6 @@ trial_from ns codes digits figures = record {
 abbrev pub logged_in : List Record → Logged
 logged_in ms = record { criticals = map (λ m. m.critical) ms; rows = map (λ m. m.row) ms; offers = map (λ m. m.offer) ms }
 
-abbrev pub byte_of_decision : Decision → ℕ
-byte_of_decision d = verdict_byte d.verdict
-
 abbrev pub steps_in : FullRun → ℕ
 steps_in f = f.steps
 
@@ -84,7 +80,7 @@ abbrev pub counts_in : FullRun → List ℕ
 counts_in f = f.counts
 
 abbrev pub verdicts_of : FullRun → List ℕ
-verdicts_of f = map byte_of_decision f.decisions
+verdicts_of f = map verdict_byte f.verdicts
 
 -- ---- the lent places
 

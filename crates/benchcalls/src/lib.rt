@@ -1,18 +1,21 @@
 // The calls that only the benchmark makes (docs/BENCHMARKS.md): they hand out whole answers, so that an answer can be compared and no part of it is left uncomputed.
 // Each answers 0 or the refusal number; a refused call changes no lent place. The definitions are in specs/, their laws in proofs/.
+// Numbers for kinds and refusals, and parts in arrays of their own: the C interface. An array goes into a place through a variable, since the
+// check does not cover one that is stored straight from a field.
 #![tactic(auto)]
 
 ghost use Rattle.std.specs.Prelude.{◌≡◌, map, length};
+ghost use Rattle.verdicts.specs.Verdicts.{verdict_byte};
 ghost use Rattle.stepdown.specs.Refusals.{table_run_refusal};
 ghost use Rattle.stepdown.specs.Answers.{full_work};
 ghost use Rattle.trial.specs.Lent.{table_call_refusal, table_buffer};
 ghost use Rattle.trialfile.specs.Files.{file_refusal};
 ghost use Rattle.trialwriter.specs.Writings.{write_refusal, after_writing};
 ghost use Rattle.rendering.specs.Renderings.{render_refusal, after_rendering};
-ghost use Rattle.benchcalls.specs.Calls.{layout_numbers, design_from, numbers_of, codes_of, digits_of, figures_of, trial_from, logged_in, byte_of_decision, steps_in, criticals_in, bar_rows_in, bar_offers_in, counts_in, verdicts_of, from_file, length_written, length_rendered, from_table};
+ghost use Rattle.benchcalls.specs.Calls.{layout_numbers, design_from, numbers_of, codes_of, digits_of, figures_of, trial_from, logged_in, steps_in, criticals_in, bar_rows_in, bar_offers_in, counts_in, verdicts_of, from_file, length_written, length_rendered, from_table};
 
 use limits::{FIGURES_MOST, OFFERS_MOST};
-use runs::{Decision, Record};
+use runs::{Record, Verdict};
 use trial::{Design, Labels, Level, Shape, Trial};
 
 // How a trial was laid out, as numbers: the kind of its shape word, pairs or shops, and the treated shops, 0 for pairs.
@@ -39,21 +42,21 @@ fn take_apart(
     ensures figures_after { figures.new ≡ figures_of t }
 {
     let shape = t.shape;
-    let design = shape.design;
-    let laid = layout(design);
+    let [kind, units, treated] = layout(shape.design);
     *numbers = [
         t.level.a,
         t.level.b,
         shape.k,
         shape.offers,
-        laid[0],
-        laid[1],
-        laid[2],
+        kind,
+        units,
+        treated,
     ];
-    let labels = t.labels;
-    let c = labels.codes;
+    let Labels {
+        codes: c,
+        digits: g,
+    } = t.labels;
     *codes = c;
-    let g = labels.digits;
     *digits = g;
     let d = t.figures;
     *figures = d;
@@ -74,12 +77,13 @@ pub extern "C" fn bench_read(
     ensures digits_after { digits.new ≡ from_file digits_of file.now digits.old }
     ensures figures_after { figures.new ≡ from_file figures_of file.now figures.old }
 {
-    let reading = trialfile::read(file);
-    if reading.refusal == 0 {
-        let t = reading.trial;
-        take_apart(t, numbers, codes, digits, figures);
+    match trialfile::read(file) {
+        Ok(t) => {
+            take_apart(t, numbers, codes, digits, figures);
+            0
+        }
+        Err(unread) => u32::from(unread),
     }
-    reading.refusal
 }
 
 // The layout of these numbers: of pairs where the kind is 2, and else of shops.
@@ -134,11 +138,13 @@ pub extern "C" fn bench_write(
     ensures written_after { written.new ≡ length_written (trial_from numbers.now codes.now digits.now figures.now) (length out.old) written.old }
 {
     let t = put_together(numbers, codes, digits, figures);
-    let writing = trialwriter::write(t, out);
-    if writing.refusal == 0 {
-        *written = writing.length;
+    match trialwriter::write(t, out) {
+        Ok(length) => {
+            *written = length;
+            0
+        }
+        Err(unwritten) => u32::from(unwritten),
     }
-    writing.refusal
 }
 
 // Makes the table of the trial of these numbers and arrays in the buffer's first places, row after row.
@@ -154,7 +160,10 @@ pub extern "C" fn bench_trial_table(
     ensures out_after { out.new ≡ table_buffer (trial_from numbers.now codes.now digits.now figures.now) out.old }
 {
     let t = put_together(numbers, codes, digits, figures);
-    trialtable::table(t, out)
+    match trialtable::table(t, out) {
+        Ok(()) => 0,
+        Err(unmade) => u32::from(unmade),
+    }
 }
 
 // Puts the report of a file into the buffer's first bytes, and the length of the text into its place.
@@ -164,11 +173,13 @@ pub extern "C" fn bench_report(file: &[u8], text: &mut [u8], written: &mut usize
     ensures text_after { text.new ≡ after_rendering file.now text.old }
     ensures written_after { written.new ≡ length_rendered file.now (length text.old) written.old }
 {
-    let rendering = rendering::report(file, text);
-    if rendering.refusal == 0 {
-        *written = rendering.length;
+    match rendering::report(file, text) {
+        Ok(printed) => {
+            *written = printed;
+            0
+        }
+        Err(unprinted) => u32::from(unprinted),
     }
-    rendering.refusal
 }
 
 // The records of a full run, field by field.
@@ -182,38 +193,18 @@ pub struct Logged {
 fn logged_in(records: [Record; 32]) -> Logged
     ensures { result ≡ logged_in records }
 {
-    let mut criticals = [0.0f64; 32];
-    let mut rows = [0usize; 32];
-    let mut offers = [0usize; 32];
-    let mut i: usize = 0;
-    while i < 32 {
-        let r = records[i];
-        criticals[i] = r.critical;
-        rows[i] = r.row;
-        offers[i] = r.offer;
-        i += 1;
-    }
     Logged {
-        criticals,
-        rows,
-        offers,
+        criticals: records.map(|r| r.critical),
+        rows: records.map(|r| r.row),
+        offers: records.map(|r| r.offer),
     }
 }
 
 // The numbers that tell verdicts: the rejecting step, 0 for kept. (No column of a table is set aside.)
-fn bytes_of(decisions: [Decision; 32]) -> [usize; 32]
-    ensures { result ≡ map byte_of_decision decisions }
+fn bytes_of(verdicts: [Verdict; 32]) -> [usize; 32]
+    ensures { result ≡ map verdict_byte verdicts }
 {
-    let mut bytes = [0usize; 32];
-    let mut j: usize = 0;
-    while j < 32 {
-        let d = decisions[j];
-        let v = d.verdict;
-        let s = verdicts::verdict_byte(v);
-        bytes[j] = s;
-        j += 1;
-    }
-    bytes
+    verdicts.map(verdicts::verdict_byte)
 }
 
 // The full run of a table: how many steps, the critical value of each and the row and the offer that set it, and for each column the count and the verdict, which is the rejecting step or 0.
@@ -243,22 +234,23 @@ pub extern "C" fn bench_table(
     ensures counts_after { counts.new ≡ from_table counts_in table.now rows columns k a b observed (length work.old) counts.old }
     ensures verdicts_after { verdicts.new ≡ from_table verdicts_of table.now rows columns k a b observed (length work.old) verdicts.old }
 {
-    let run = stepdown::full_run(table, work, rows, columns, k, a, b, observed);
-    if run.refusal == 0 {
-        *steps = run.steps;
-        let records = run.records;
-        let logged = logged_in(records);
-        let c = logged.criticals;
-        *criticals = c;
-        let g = logged.rows;
-        *barrows = g;
-        let o = logged.offers;
-        *baroffers = o;
-        let n = run.counts;
-        *counts = n;
-        let decisions = run.decisions;
-        let s = bytes_of(decisions);
-        *verdicts = s;
+    match stepdown::full_run(table, work, rows, columns, k, a, b, observed) {
+        Ok(run) => {
+            *steps = run.steps;
+            let Logged {
+                criticals: c,
+                rows: g,
+                offers: o,
+            } = logged_in(run.records);
+            *criticals = c;
+            *barrows = g;
+            *baroffers = o;
+            let n = run.counts;
+            *counts = n;
+            let s = bytes_of(run.verdicts);
+            *verdicts = s;
+            0
+        }
+        Err(refusal) => u32::from(refusal),
     }
-    run.refusal
 }

@@ -1,4 +1,5 @@
 // The static library of the calls that only the benchmark makes (docs/BENCHMARKS.md): each export is the call of the library `benchcalls` of that name, with its clauses.
+// Each stands here once more: a static library exports what its own crate names.
 #![tactic(auto)]
 
 ghost use Rattle.std.specs.Prelude.{◌≡◌, length};

@@ -1,6 +1,6 @@
 -- Every call in the one form of an answer, and the stated orders; what accepted calls hand out beyond the page.
 -- With `every_call` and `refused-unchanged` of Claims.antt each line below says of its call which number comes when, and what the buffers hold.
---   ..-order         the conditions of a call, as documents 01 and 02 list them
+--   ..-order         the conditions of a call, in their order
 --   ..-told          the paper's number and values for each case of an answer
 --   ..-number        the number that an answer holds is that of the first condition that holds
 --   ..-accepted      what an accepted call hands out
@@ -13,21 +13,20 @@ use lib.Dec.{ltb, leb, eqb}
 use lib.IntN.{pos}
 use lib.Ieee.{Float, nan}
 use Rattle.order.specs.Lists.{rows_of}
-use Rattle.refusals.specs.Answers.{r1, r2, r3, r4, r9, r10, r11, r12, r13, r14, r15, places_from, answer}
+use Rattle.refusals.specs.Answers.{r1, r2, r3, r4, r9, r10, r11, r12, r13, r14, r15, places_from, answer, refusal_in}
 use Rattle.limits.specs.Limits.{offers_most, pairs_most}
 use Rattle.refusals.specs.Limits.{outside, bad_columns, bad_level}
 use Rattle.refusals.specs.Buffers.{too_short, written, cleared}
-use Rattle.refusals.proofs.Answers.{answered, answer-map}
-use Rattle.runs.specs.FullRuns.{no_record, accepted_run, refused_run}
+use Rattle.refusals.proofs.Answers.{answered, outcome_number, passed-ok, both-pass}
+use Rattle.std.proofs.Common.{Ok}
+use Rattle.runs.specs.FullRuns.{no_record, accepted_run}
 use Rattle.runs.specs.Tables.{table_run}
-use Rattle.runs.specs.declared.FullRun.{FullRun}
 use Rattle.stepdown.specs.Runs.{begun, next_run, step_record}
 use Rattle.stepdown.specs.Refusals.{bad_shape, bad_value, table_checks, table_run_checks, table_run_refusal, begin_checks, spoiled, step_checks, step_refusal}
 use Rattle.stepdown.specs.Answers.{told, told_by_beginning, told_by_step, begin_answer, step_answer, full_answer}
 use Rattle.stepdown.specs.declared.Run.{Run}
 use Rattle.adjustment.specs.Adjusted.{table_figures}
-use Rattle.adjustment.specs.Answers.{adjustment_checks, adjustment_call_checks, adjustment_call_refusal, accepted_figures, refused_figures, figures_answer}
-use Rattle.adjustment.specs.declared.Adjusted.{Adjusted}
+use Rattle.adjustment.specs.Answers.{adjustment_checks, adjustment_call_checks, adjustment_call_refusal, accepted_figures, figures_answer}
 use Rattle.balance.specs.Balance.{balanced_table}
 use Rattle.tablebalance.specs.Answers.{bad_counts, balance_checks, balance_refusal, balance_buffer, balanced_run, balanced_checks, balanced_refusal, balanced_answer}
 use Rattle.verdicts.specs.Verdicts.{rejected_count}
@@ -37,16 +36,13 @@ use Rattle.trial.specs.Record.{figure_count, setting_of, figures_of}
 use Rattle.trial.specs.Refusals.{heading_checks, offer_checks, figure_checks, nth, content_checks, trial_checks}
 use Rattle.trial.specs.declared.Design.TheVariants.{Paired, Unpaired}
 use Rattle.trial.specs.declared.Shape.{Shape}
-use Rattle.trial.specs.Lent.{full_size, refused_size, table_call_checks, table_call_refusal, table_buffer}
-use Rattle.trial.specs.declared.TableSize.{TableSize}
+use Rattle.trial.specs.Lent.{full_size, table_call_checks, table_call_refusal, table_buffer}
 use Rattle.trial.specs.declared.Trial.{Trial}
 use Rattle.words.specs.Words.{words_of, word}
 use Rattle.layouts.specs.Layouts.{level_at, shape_at, layout_of}
 use Rattle.words.specs.Words.{no_shape, spare_of, shape_in}
 use Rattle.trialfile.specs.Files.{bad_length, level_place, shape_place, offer_place, figure_place, end_place, body_places, file_checks, file_refusal, trial_of, reading_of}
 use Rattle.trialwriter.specs.Writings.{file_length, write_checks, write_refusal, writing_of}
-use Rattle.trialwriter.specs.declared.Writing.{Writing}
-use Rattle.trialfile.proofs.Taken.{read-refusal}
 use Rattle.trialrun.specs.TrialRuns.{trial_run, run_call_checks, run_call_refusal, run_size, trial_answer}
 use Rattle.trialrun.specs.FileRuns.{file_run}
 use Rattle.trialadjustment.specs.TrialFigures.{trial_figures, trial_figures_answer}
@@ -73,7 +69,7 @@ pub body-order : (ws : List ℕ) (s : Shape) → let l = layout_of s in
 unfolding body_places
 body-order ws s = refl
 
--- at the shape word: 2, 4, then what its layout adds: the pairs' part of 4, or 15 of shops without partners (document 02, §6)
+-- at the shape word: 2, 4, then what its layout adds: the pairs' part of 4, or 15 of shops without partners
 pub shape-order : (w : ℕ) → shape_place w ≡ (no_shape w, r2) ∷ (bad_columns offers_most (shape_in w).offers (shape_in w).k || not (eqb (spare_of w) 0), r4) ∷ design_checks (shape_in w).design
 shape-order w = refl
 
@@ -179,41 +175,42 @@ pub step-told : (t : List Float) (r : Run) (places : ℕ)
     → told_by_step r (step_answer t r places) ≡ answer (step_checks t r places) (told 0 (next_run t r) (step_record t r)) (λ n. told n r no_record)
 step-told = calls.step-told
 
-pub full-number : (t : List Float) (rows columns k a b observed places : ℕ) → (full_answer t rows columns k a b observed places).refusal ≡ table_run_refusal t rows columns k a b observed places
-unfolding full_answer table_run_refusal accepted_run
-full-number t rows columns k a b observed places = answer-map (λ (f : FullRun). f.refusal) (table_run_checks t rows columns k a b observed places) (accepted_run (table_run t rows columns k a b observed)) refused_run
+pub full-number : (t : List Float) (rows columns k a b observed places : ℕ) → refusal_in (full_answer t rows columns k a b observed places) ≡ table_run_refusal t rows columns k a b observed places
+unfolding full_answer table_run_refusal
+full-number t rows columns k a b observed places = outcome_number (table_run_checks t rows columns k a b observed places) (accepted_run (table_run t rows columns k a b observed))
 
-pub figures-number : (t : List Float) (rows columns k observed places : ℕ) → (figures_answer t rows columns k observed places).refusal ≡ adjustment_call_refusal t rows columns k observed places
+pub figures-number : (t : List Float) (rows columns k observed places : ℕ) → refusal_in (figures_answer t rows columns k observed places) ≡ adjustment_call_refusal t rows columns k observed places
 unfolding figures_answer adjustment_call_refusal
-figures-number t rows columns k observed places = answer-map (λ (f : Adjusted). f.refusal) (adjustment_call_checks t rows columns k observed places) (accepted_figures rows (table_figures t rows columns k observed)) refused_figures
+figures-number t rows columns k observed places = outcome_number (adjustment_call_checks t rows columns k observed places) (accepted_figures rows (table_figures t rows columns k observed))
 
-pub balanced-number : (t : List Float) (rows columns k a b observed places work : ℕ) → (balanced_answer t rows columns k a b observed places work).refusal ≡ balanced_refusal t rows columns k a b observed places work
-unfolding balanced_answer balanced_refusal accepted_run
-balanced-number t rows columns k a b observed places work = answer-map (λ (f : FullRun). f.refusal) (balanced_checks t rows columns k a b observed places work) (accepted_run (balanced_run t rows columns k a b observed)) refused_run
+pub balanced-number : (t : List Float) (rows columns k a b observed places work : ℕ) → refusal_in (balanced_answer t rows columns k a b observed places work) ≡ balanced_refusal t rows columns k a b observed places work
+unfolding balanced_answer balanced_refusal
+balanced-number t rows columns k a b observed places work = outcome_number (balanced_checks t rows columns k a b observed places work) (accepted_run (balanced_run t rows columns k a b observed))
 
 -- the table that is made for a run of a trial, and the runs: one number
-pub size_number : (t : Trial) (places work : ℕ) → (run_size t places work).refusal ≡ run_call_refusal t places work
+pub size_number : (t : Trial) (places work : ℕ) → refusal_in (run_size t places work) ≡ run_call_refusal t places work
 unfolding run_size run_call_refusal
-size_number t places work = answer-map (λ (s : TableSize). s.refusal) (run_call_checks t places work) (full_size t) refused_size
+size_number t places work = outcome_number (run_call_checks t places work) (full_size t)
 
-pub trial-number : (t : Trial) (places work : ℕ) → (trial_answer t places work).refusal ≡ run_call_refusal t places work
-unfolding trial_answer run_call_refusal accepted_run
-trial-number t places work = answer-map (λ (f : FullRun). f.refusal) (run_call_checks t places work) (accepted_run (trial_run t)) refused_run
+pub trial-number : (t : Trial) (places work : ℕ) → refusal_in (trial_answer t places work) ≡ run_call_refusal t places work
+unfolding trial_answer run_call_refusal
+trial-number t places work = outcome_number (run_call_checks t places work) (accepted_run (trial_run t))
 
-pub trial-figures-number : (t : Trial) (places work : ℕ) → (trial_figures_answer t places work).refusal ≡ run_call_refusal t places work
+pub trial-figures-number : (t : Trial) (places work : ℕ) → refusal_in (trial_figures_answer t places work) ≡ run_call_refusal t places work
 unfolding trial_figures_answer run_call_refusal
-trial-figures-number t places work = answer-map (λ (f : Adjusted). f.refusal) (run_call_checks t places work) (accepted_figures (row_total t) (trial_figures t)) refused_figures
+trial-figures-number t places work = outcome_number (run_call_checks t places work) (accepted_figures (row_total t) (trial_figures t))
 
-pub trial-balanced-number : (t : Trial) (places work : ℕ) → (trial_balanced_answer t places work).refusal ≡ run_call_refusal t places work
-unfolding trial_balanced_answer run_call_refusal accepted_run
-trial-balanced-number t places work = answer-map (λ (f : FullRun). f.refusal) (run_call_checks t places work) (accepted_run (trial_balanced_run t)) refused_run
+pub trial-balanced-number : (t : Trial) (places work : ℕ) → refusal_in (trial_balanced_answer t places work) ≡ run_call_refusal t places work
+unfolding trial_balanced_answer run_call_refusal
+trial-balanced-number t places work = outcome_number (run_call_checks t places work) (accepted_run (trial_balanced_run t))
 
-pub read_number : (bytes : List ℕ) → (reading_of bytes).refusal ≡ file_refusal bytes
-read_number = read-refusal
+pub read_number : (bytes : List ℕ) → refusal_in (reading_of bytes) ≡ file_refusal bytes
+unfolding reading_of file_refusal
+read_number bytes = outcome_number (file_checks bytes) (trial_of (words_of bytes))
 
-pub write-number : (t : Trial) (places : ℕ) → (writing_of t places).refusal ≡ write_refusal t places
+pub write-number : (t : Trial) (places : ℕ) → refusal_in (writing_of t places) ≡ write_refusal t places
 unfolding writing_of write_refusal
-write-number t places = answer-map (λ (w : Writing). w.refusal) (write_checks t places) (record { refusal = 0; length = file_length t }) (λ n. record { refusal = n; length = 0 })
+write-number t places = outcome_number (write_checks t places) (file_length t)
 
 -- ==== what accepted calls hand out ====
 
@@ -230,13 +227,14 @@ unfolding table_buffer table_call_refusal
 table-accepted t buf h = (answered (table_call_checks t (length buf)) _ (λ _. buf)).gives h
 
 -- from C: the number of rejected offers, and the verdicts in the first bytes
-pub c-trial-accepted : (file verdicts : List ℕ) → trial_verdicts_refusal file (length verdicts) ≡ 0 → let ds = (file_run file).run.decisions in
-    (trial_verdicts_answer file (length verdicts) ≡ rejected_count (file_offers file) ds) × (trial_verdicts_buffer file verdicts ≡ written (verdict_bytes (file_offers file) ds) verdicts)
-unfolding trial_verdicts_answer trial_verdicts_buffer trial_verdicts_refusal
-c-trial-accepted file verdicts h = ((answered (trial_verdicts_checks file (length verdicts)) _ (λ n. 100 + n)).gives h, (answered (trial_verdicts_checks file (length verdicts)) _ (λ _. verdicts)).gives h)
+pub c-trial-accepted : (file verdicts : List ℕ) → trial_verdicts_refusal file (length verdicts) ≡ 0 → let run = accepted_run (trial_run (trial_of (words_of file))) in
+    (trial_verdicts_answer file (length verdicts) ≡ rejected_count (file_offers file) run.verdicts) × (trial_verdicts_buffer file verdicts ≡ written (verdict_bytes (file_offers file) run.verdicts) verdicts)
+    × (file_run file ≡ Ok (record { trial = trial_of (words_of file); run = run }))
+unfolding trial_verdicts_answer trial_verdicts_buffer trial_verdicts_refusal file_run
+c-trial-accepted file verdicts h = ((answered (trial_verdicts_checks file (length verdicts)) _ (λ n. 100 + n)).gives h, (answered (trial_verdicts_checks file (length verdicts)) _ (λ _. verdicts)).gives h, passed-ok (file_checks file) _ (both-pass (file_checks file) (too_short (length verdicts) (file_offers file)) h).0)
 
 pub c-table-accepted : (t : List Float) (rows columns k a b observed : ℕ) (work : ℕ) (verdicts : List ℕ) → table_verdicts_refusal t rows columns k a b observed work (length verdicts) ≡ 0
-    → let ds = (accepted_run (table_run t rows columns k a b observed)).decisions in
+    → let ds = (accepted_run (table_run t rows columns k a b observed)).verdicts in
     (table_verdicts_answer t rows columns k a b observed work (length verdicts) ≡ rejected_count columns ds)
     × (table_verdicts_buffer t rows columns k a b observed work verdicts ≡ written (verdict_bytes columns ds) verdicts)
 unfolding table_verdicts_answer table_verdicts_buffer table_verdicts_refusal
@@ -266,10 +264,13 @@ pub c-table-balanced : (t : List Float) (rows columns : ℕ) (out : List Float) 
 unfolding table_balanced_answer balance_buffer balance_refusal
 c-table-balanced t rows columns out h = let cs = balance_checks t rows columns (length out) in ((answered cs _ (λ n. 100 + n)).gives h, (answered cs _ (λ _. out)).gives h)
 
-pub c-trial-balanced : (file verdicts : List ℕ) → trial_verdicts_refusal file (length verdicts) ≡ 0 → let ds = (file_balanced_run file).run.decisions in
-    (trial_balanced_verdicts_answer file (length verdicts) ≡ rejected_count (file_offers file) ds) × (trial_balanced_verdicts_buffer file verdicts ≡ written (verdict_bytes (file_offers file) ds) verdicts)
-unfolding trial_balanced_verdicts_answer trial_balanced_verdicts_buffer trial_verdicts_refusal
-c-trial-balanced file verdicts h = let cs = trial_verdicts_checks file (length verdicts) in ((answered cs _ (λ n. 100 + n)).gives h, (answered cs _ (λ _. verdicts)).gives h)
+pub c-trial-balanced : (file verdicts : List ℕ) → trial_verdicts_refusal file (length verdicts) ≡ 0 → let run = accepted_run (trial_balanced_run (trial_of (words_of file))) in
+    (trial_balanced_verdicts_answer file (length verdicts) ≡ rejected_count (file_offers file) run.verdicts) × (trial_balanced_verdicts_buffer file verdicts ≡ written (verdict_bytes (file_offers file) run.verdicts) verdicts)
+    × (file_balanced_run file ≡ Ok (record { trial = trial_of (words_of file); run = run }))
+unfolding trial_balanced_verdicts_answer trial_balanced_verdicts_buffer trial_verdicts_refusal file_balanced_run
+c-trial-balanced file verdicts h =
+    let cs = trial_verdicts_checks file (length verdicts) in
+    ((answered cs _ (λ n. 100 + n)).gives h, (answered cs _ (λ _. verdicts)).gives h, passed-ok (file_checks file) _ (both-pass (file_checks file) (too_short (length verdicts) (file_offers file)) h).0)
 
 -- a view of a whole table shows the values that the method looks at
 pub view-entry : (xs : List Float) (rows columns row column : ℕ) → length xs ≡ rows * columns → row < rows → column < columns

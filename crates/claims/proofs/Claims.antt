@@ -1,7 +1,7 @@
--- The promises of the whole, on one page: the three demands of document 01, then the requests of document 02; each theorem from the parts in a line or two.
+-- The promises of the whole, on one page: total, exact and controlled, then what was asked for later; each theorem from the parts in a line or two.
 -- A contract says that a public function answers what a definition gives, for every input; the theorems are about those definitions.
 -- Every call is `answer checks accepted refused`, and every lent buffer `afterwards checks new old` (refusals/specs/Answers.antt): Calls.antt
--- beside this page lists them, with the stated orders. docs/CLAIMS.md maps every sentence of document 01, and of the requests, to what keeps it.
+-- beside this page lists them, with the stated orders. docs/CLAIMS.md maps every sentence that was asked for to what keeps it.
 use Prim.Native.Nat.{ℕ, suc, ◌+◌, ◌*◌, ◌-◌, ◌/◌, ◌%◌, ◌^◌, ◌≤◌, ◌<◌}
 use mathlib.Core.Path.{◌≡◌, refl, sym, ap, ◌∙◌}
 use mathlib.Core.Bool.{Bool, true, false, not, ◌&&◌, ◌||◌}
@@ -21,16 +21,17 @@ use Rattle.order.proofs.Places as places
 use Rattle.select.specs.Rank.{mth_smallest}
 use Rattle.select.specs.Passes.{top_bits, Search}
 use Rattle.select.proofs.Passes as passes
-use Rattle.refusals.specs.Answers.{r15, Checks, First, first_refusal, afterwards}
+use Rattle.refusals.specs.Answers.{r15, Checks, First, first_refusal, afterwards, value_or}
 use Rattle.refusals.specs.Limits.{outside, allowance}
 use Rattle.refusals.specs.Buffers.{written, cleared}
-use Rattle.refusals.proofs.Answers.{Answered, answered, none-holds}
+use Rattle.refusals.proofs.Answers.{Answered, answered, none-holds, passed-ok}
+use Rattle.std.proofs.Common.{Ok}
 use Rattle.columns.specs.Columns.{Columns, size, ◌∪◌, ◌∖◌, within, choose, every_column}
 use Rattle.method.specs.Method.{k_max, at_least}
 use Rattle.method.specs.Bars.{k_max_column}
 use Rattle.method.proofs.Bars as of-a-row
 use Rattle.runs.specs.Stepdown.{live_set, rejected_set, left_over, step_sets, newly_rejected, full_run}
-use Rattle.runs.specs.FullRuns.{accepted_run, refused_run, verdicts_in, is_rejected, is_aside}
+use Rattle.runs.specs.FullRuns.{accepted_run, blank_run, verdicts_in, is_rejected, is_aside}
 use Rattle.runs.specs.SetBy.{SetBy, RecordSetBy}
 use Rattle.runs.specs.declared.FullRun.{FullRun}
 use Rattle.runs.specs.declared.Record.{Record}
@@ -40,7 +41,7 @@ use Rattle.runs.specs.Tables.{table_start, table_run}
 use Rattle.runs.specs.Examples.{examples}
 use Rattle.runs.specs.Examples as ties
 use Rattle.runs.proofs.Examples.{all-examples, all-bars}
-use Rattle.runs.proofs.Told as told
+use Rattle.runs.proofs.ToldColumns as told
 use Rattle.verdicts.specs.Verdicts.{verdict_byte, rejected_count}
 use Rattle.verdicts.proofs.Bytes.{Tells, run-tells}
 use Rattle.stepdown.specs.Runs.{begun, state_of, next_run, step_record}
@@ -52,7 +53,7 @@ use Rattle.stepdown.proofs.Accepted as checked
 use Rattle.stepdown.proofs.Bars as bars
 use Rattle.adjustment.specs.Adjusted.{rejected_in, table_figures}
 use Rattle.adjustment.specs.Passes.{maximum_pass, k_max_pass}
-use Rattle.adjustment.specs.Answers.{adjustment_checks, adjustment_call_checks, adjustment_call_refusal, accepted_figures, refused_figures, figures_answer, figures_work}
+use Rattle.adjustment.specs.Answers.{adjustment_checks, adjustment_call_checks, adjustment_call_refusal, accepted_figures, figures_answer, figures_work}
 use Rattle.adjustment.specs.Examples as adjusted
 use Rattle.adjustment.proofs.Accepted.{accepted}
 use Rattle.adjustment.proofs.Tables as figures
@@ -70,7 +71,7 @@ use Rattle.trial.specs.Ascending.{before}
 use Rattle.trial.specs.Choices.{Choice, choices, choice_at, shops_of, sum_of, contrast, chosen_first}
 use Rattle.trial.specs.Designs.{design_checks, row_count, entry_of, untested}
 use Rattle.trial.specs.Examples.{trial_shops, sums_shops, two_shops, ten_shops}
-use Rattle.trial.specs.Record.{ArrayLengths, Contents, trimmed, Same, Keeps}
+use Rattle.trial.specs.Record.{ArrayLengths, Contents, blank, trimmed, Same, Keeps}
 use Rattle.trial.specs.Aside.{live_offers}
 use Rattle.trial.specs.Exchange.{by_offer, figures_at, row_of, row_total, trial_rows, table_of}
 use Rattle.trial.specs.Refusals.{trial_refusal}
@@ -138,7 +139,7 @@ refused-unchanged cs new old n f = (answered cs new (λ _. old)).refuses n f
 
 -- fed any bytes the program ends in one report or one refusal: what it prints, of an input that it read into such a buffer, is the report of the whole input
 pub program : (whole buffer text : List ℕ) (n : ℕ) → input_room ≤ length buffer → longest_report ≤ length text → Gives whole buffer n
-    → let read = take n buffer in take (rendering_of read (length text)).length (after_rendering read text) ≡ report_of whole
+    → let read = take n buffer in take (value_or 0 (rendering_of read (length text))) (after_rendering read text) ≡ report_of whole
 program whole buffer text n h k g = rendered.rendered-whole (take n buffer) text _ _ k refl refl ∙ programs.whole-input report_of input_room inputs.cut_off whole buffer n h g
 
 pub report-refused : (bytes : List ℕ) (n : ℕ) → First (file_checks bytes) n → report_of bytes ≡ refused_text n
@@ -149,9 +150,9 @@ report-refused bytes n f = (answered (file_checks bytes) _ refused_text).refuses
 
 -- of an accepted table the verdicts, counts and records are the method's, and the work buffer is cleared
 module _ (t : List Float) (rows columns k a b observed : ℕ) where
-  pub table-run : (places : ℕ) → table_run_refusal t rows columns k a b observed places ≡ 0 → full_answer t rows columns k a b observed places ≡ accepted_run (table_run t rows columns k a b observed)
+  pub table-run : (places : ℕ) → table_run_refusal t rows columns k a b observed places ≡ 0 → full_answer t rows columns k a b observed places ≡ Ok (accepted_run (table_run t rows columns k a b observed))
   unfolding full_answer table_run_refusal
-  table-run places h = (answered (table_run_checks t rows columns k a b observed places) _ refused_run).gives h
+  table-run places h = passed-ok (table_run_checks t rows columns k a b observed places) _ h
 
   pub table-work : (work : List Float) → table_run_refusal t rows columns k a b observed (length work) ≡ 0 → full_work t rows columns k a b observed work ≡ cleared rows work
   unfolding full_work table_run_refusal
@@ -168,14 +169,14 @@ pub step-ended : (t : List Float) (r : Run) (places : ℕ) → step_refusal t r 
     → ((next_run t r).ended ≡ true) ↔ ((size (newly_rejected (rows_of r.rows r.columns t) (state_of r)) ≡ 0) ⊎ ((size (rejected_set (state_of (next_run t r))) < r.k) ⊎ (size (left_over (state_of (next_run t r))) ≡ 0)))
 step-ended = steps.step-ended
 
--- an accepted trial: its entries are exact, and its full run is the method's on its table, over the offers that are not set aside (document 02, §4)
+-- an accepted trial: its entries are exact, and its full run is the method's on its table, over the offers that are not set aside
 module _ (t : Trial) where
   pub sums-exact : trial_refusal t ≡ 0 → (g : ℕ) → map (to_signed 63) (row_of t g) ≡ map (entry_of t.shape.design g) (by_offer t)
   sums-exact = row-exact t
 
-  pub trial-run : (places work : ℕ) → run_call_refusal t places work ≡ 0 → trial_answer t places work ≡ accepted_run (trial_run t)
+  pub trial-run : (places work : ℕ) → run_call_refusal t places work ≡ 0 → trial_answer t places work ≡ Ok (accepted_run (trial_run t))
   unfolding trial_answer run_call_refusal
-  trial-run places work h = (answered (run_call_checks t places work) _ refused_run).gives h
+  trial-run places work h = passed-ok (run_call_checks t places work) _ h
 
   -- it is the run of the table that stands in the buffer
   pub trial-run-table : trial_run t ≡ full_run (rows_of (row_total t) t.shape.offers (table_of t)) (trial_start t)
@@ -183,12 +184,12 @@ module _ (t : Trial) where
 
   -- a trial written as a file reads back as the same trial
   pub write_read : ArrayLengths t → trial_refusal t ≡ 0 → (buf : List ℕ) → file_length t ≤ length buf
-      → (reading_of (take (writing_of t (length buf)).length (after_writing t buf)) ≡ record { refusal = 0; trial = trimmed t }) × Same t (trimmed t)
+      → (reading_of (take (value_or 0 (writing_of t (length buf))) (after_writing t buf)) ≡ Ok (trimmed t)) × Same t (trimmed t)
   write_read sized h buf room = (files.write-back t sized h buf room, same-trimmed t sized h)
 
 -- an accepted file is written again byte for byte
 pub read-write : (bytes : List ℕ) → Bytes bytes → file_refusal bytes ≡ 0 → (buf : List ℕ) → length bytes ≤ length buf
-    → (writing_of (reading_of bytes).trial (length buf) ≡ record { refusal = 0; length = length bytes }) × (take (length bytes) (after_writing (reading_of bytes).trial buf) ≡ bytes)
+    → let t = value_or blank (reading_of bytes) in (writing_of t (length buf) ≡ Ok (length bytes)) × (take (length bytes) (after_writing t buf) ≡ bytes)
 read-write = files.read_back
 
 -- the report of an accepted file is that of its trial's full run, and its critical values are printed whole
@@ -212,13 +213,13 @@ starred = all-examples
 -- whichever shops the coins had picked, at most floor(2^n × a/b) of the 2^n runs reject k or more idle offers, whatever the other offers show in each run:
 -- the verdicts are those that the full runs answer, with buffers that are long enough. Of the other offers nothing is asked but that each run's trial is
 -- accepted: one of them may be set aside in some runs and not in others. The same theorem holds for shops without partners, over the choices of treated shops
--- (`listed`; §6 below has it in its own words). `ArrayLengths` says what every value of the record's type has: arrays of their length
+-- (`listed`; "Shops without partners" below has it in its own words). `ArrayLengths` says what every value of the record's type has: arrays of their length
 pub trials : (t : Trial) (idle : ℕ → Bool) (runs : ℕ → Trial) → ArrayLengths t → trial_refusal t ≡ 0
     → ((g : ℕ) → g < row_total t → trial_refusal (runs g) ≡ 0)
     → ((g : ℕ) → g < row_total t → Keeps t (runs g))
     → ((g : ℕ) → g < row_total t → ListedOn idle g t (runs g))
     → (places work : ℕ) → row_total t * t.shape.offers ≤ places → row_total t ≤ work
-    → runs_that_reject t.shape.k (row_total t) idle (λ g. verdicts_in t.shape.offers (trial_answer (runs g) places work)) ≤ allowance (row_total t) t.level.a t.level.b
+    → runs_that_reject t.shape.k (row_total t) idle (λ g. verdicts_in t.shape.offers (value_or blank_run (trial_answer (runs g) places work))) ≤ allowance (row_total t) t.level.a t.level.b
 trials = trials-answered
 
 -- the matching promise for tables, each row as the observed one in turn
@@ -226,16 +227,16 @@ pub tables : (rows columns k a b : ℕ) (t : List Float) (idle : ℕ → Bool) (
     → ((g : ℕ) → g < rows → table_refusal (runs g) rows columns k a b g ≡ 0)
     → ((g : ℕ) → g < rows → SameOn idle rows columns t (runs g))
     → (places : ℕ) → rows ≤ places
-    → runs_that_reject k rows idle (λ g. verdicts_in columns (full_answer (runs g) rows columns k a b g places)) ≤ allowance rows a b
+    → runs_that_reject k rows idle (λ g. verdicts_in columns (value_or blank_run (full_answer (runs g) rows columns k a b g places))) ≤ allowance rows a b
 tables = tables-answered
 
--- ==== Adjusted figures (document 02, §1) ====
+-- ==== Adjusted figures ====
 
 -- of an accepted table the call answers M and, for each column, the least e from 0 to M - 1 at which the method rejects it, or M; the work buffer is cleared
 module _ (t : List Float) (rows columns k observed : ℕ) where
-  pub table-figures : (places : ℕ) → adjustment_call_refusal t rows columns k observed places ≡ 0 → figures_answer t rows columns k observed places ≡ accepted_figures rows (table_figures t rows columns k observed)
+  pub table-figures : (places : ℕ) → adjustment_call_refusal t rows columns k observed places ≡ 0 → figures_answer t rows columns k observed places ≡ Ok (accepted_figures rows (table_figures t rows columns k observed))
   unfolding figures_answer adjustment_call_refusal
-  table-figures places h = (answered (adjustment_call_checks t rows columns k observed places) _ refused_figures).gives h
+  table-figures places h = passed-ok (adjustment_call_checks t rows columns k observed places) _ h
 
   pub figures-work : (work : List Float) → adjustment_call_refusal t rows columns k observed (length work) ≡ 0 → figures_work t rows columns k observed work ≡ cleared rows work
   unfolding figures_work adjustment_call_refusal
@@ -253,7 +254,7 @@ module _ (t : List Float) (rows columns k observed : ℕ) where
     pub by-one-pass : k_max_pass k (rows_of rows columns t) (every_column columns) observed ≡ table_figures t rows columns k observed
     by-one-pass = figures.table-k_max_pass t rows columns k observed (accepted t rows columns k observed ok)
 
--- for k = 1 it is the pass that §1 words
+-- for k = 1 it is one pass over the columns
 pub by-maxima : (t : List Float) (rows columns observed : ℕ) → first_refusal (adjustment_checks t rows columns 1 observed) ≡ 0 → maximum_pass (rows_of rows columns t) (every_column columns) observed ≡ table_figures t rows columns 1 observed
 by-maxima t rows columns observed ok = figures.table-maximum_pass t rows columns observed (accepted t rows columns 1 observed ok)
 
@@ -264,9 +265,9 @@ on-the-list = figures.table-level
 
 -- a trial's figures are those of its table over the offers that are not set aside, with its own k: the same holds of its offers, those set aside among them
 module _ (t : Trial) where
-  pub trial-figures : (places work : ℕ) → run_call_refusal t places work ≡ 0 → trial_figures_answer t places work ≡ accepted_figures (row_total t) (trial_figures t)
+  pub trial-figures : (places work : ℕ) → run_call_refusal t places work ≡ 0 → trial_figures_answer t places work ≡ Ok (accepted_figures (row_total t) (trial_figures t))
   unfolding trial_figures_answer run_call_refusal
-  trial-figures places work h = (answered (run_call_checks t places work) _ refused_figures).gives h
+  trial-figures places work h = passed-ok (run_call_checks t places work) _ h
 
   pub trial-by-one-pass : trial_refusal t ≡ 0 → t.shape.k ≤ size (live_offers t) → k_max_pass t.shape.k (trial_rows t) (live_offers t) 0 ≡ trial_figures t
   trial-by-one-pass = trialfigures.trial-pass t
@@ -287,7 +288,7 @@ one-sheet = trialfigures.one-level
 
 -- what the program for the sheet prints, of an input that it read into such a buffer, is the sheet of the whole input: the figures of its trial, or its refusal
 pub sheet-program : (whole buffer text : List ℕ) (n : ℕ) → input_room ≤ length buffer → longest_sheet ≤ length text → Gives whole buffer n
-    → let read = take n buffer in take (text_answer (sheet_of read) (length text)).length (after_text (sheet_of read) text) ≡ sheet_of whole
+    → let read = take n buffer in take (value_or 0 (text_answer (sheet_of read) (length text))) (after_text (sheet_of read) text) ≡ sheet_of whole
 sheet-program whole buffer text n h k g = sheets.sheet-whole (take n buffer) text _ _ k refl refl ∙ programs.whole-input sheet_of input_room sheet-inputs.cut_off whole buffer n h g
 
 pub sheet-accepted : (bytes : List ℕ) → file_refusal bytes ≡ 0 → let t = trial_of (words_of bytes) in sheet_of bytes ≡ sheet_text t (accepted_figures (row_total t) (trial_figures t))
@@ -302,7 +303,7 @@ sheet-refused bytes n f = (answered (file_checks bytes) _ refused_text).refuses 
 pub adjusted-examples : map (λ x. x.asked) adjusted.examples ≡ map (λ x. x.told) adjusted.examples
 adjusted-examples = figure-examples.all-examples
 
--- ==== Large tables (document 02, §2) ====
+-- ==== Large tables ====
 
 -- each finite value has its place, a 64-bit number, and stands lower exactly when it is smaller; equal places are those of equal values
 module _ (x y : Float) (u : T (finite x)) (v : T (finite y)) where
@@ -325,7 +326,7 @@ module _ (m : ℕ) (xs : List Float) (fs : T (all finite xs)) (pos : 0 < m) (man
   pub settled : {p h : ℕ} → Search m xs p h 0 → h ≡ place (mth_smallest m xs)
   settled = passes.settled m xs fs pos many
 
--- ==== Balanced verdicts (document 02, §3) ====
+-- ==== Balanced verdicts ====
 
 -- of an accepted table the buffer holds the balanced table, and each of its entries is the number of rows of its own column whose value is at most that entry
 module _ (t : List Float) (rows columns : ℕ) (out : List Float) (h : balance_refusal t rows columns (length out) ≡ 0) where
@@ -340,9 +341,9 @@ module _ (t : List Float) (rows columns : ℕ) (out : List Float) (h : balance_r
 
 -- the engine then runs on that table: verdicts, counts and records of an accepted call are those of the balanced table, which stands in its buffer; the work buffer is cleared
 module _ (t : List Float) (rows columns k a b observed : ℕ) where
-  pub balanced-run : (places work : ℕ) → balanced_refusal t rows columns k a b observed places work ≡ 0 → balanced_answer t rows columns k a b observed places work ≡ accepted_run (table_run (balanced_table t rows columns) rows columns k a b observed)
+  pub balanced-run : (places work : ℕ) → balanced_refusal t rows columns k a b observed places work ≡ 0 → balanced_answer t rows columns k a b observed places work ≡ Ok (accepted_run (table_run (balanced_table t rows columns) rows columns k a b observed))
   unfolding balanced_answer balanced_refusal balanced_run
-  balanced-run places work h = (answered (balanced_checks t rows columns k a b observed places work) _ refused_run).gives h
+  balanced-run places work h = passed-ok (balanced_checks t rows columns k a b observed places work) _ h
 
   pub balanced-buffers : (out work : List Float) → balanced_refusal t rows columns k a b observed (length out) (length work) ≡ 0
       → (balanced_out t rows columns k a b observed out (length work) ≡ written (balanced_table t rows columns) out) × (balanced_work t rows columns k a b observed (length out) work ≡ cleared rows work)
@@ -365,9 +366,9 @@ balanced-figures = figures-accepted
 
 -- a trial's balanced run is that of the balanced rows of its table, from the state that its plain run begins with; the balanced table stands in the table's buffer
 module _ (t : Trial) where
-  pub trial-balanced-run : (places work : ℕ) → run_call_refusal t places work ≡ 0 → trial_balanced_answer t places work ≡ accepted_run (full_run (balanced_rows (trial_rows t)) (trial_start t))
+  pub trial-balanced-run : (places work : ℕ) → run_call_refusal t places work ≡ 0 → trial_balanced_answer t places work ≡ Ok (accepted_run (full_run (balanced_rows (trial_rows t)) (trial_start t)))
   unfolding trial_balanced_answer trial_balanced_run run_call_refusal
-  trial-balanced-run places work h = (answered (run_call_checks t places work) _ refused_run).gives h
+  trial-balanced-run places work h = passed-ok (run_call_checks t places work) _ h
 
   pub trial-balanced-table : trial_balanced_run t ≡ full_run (rows_of (row_total t) t.shape.offers (trial_balanced t)) (trial_start t)
   trial-balanced-table = balancing.balanced_run-table t
@@ -382,7 +383,7 @@ module _ (t : Trial) where
 
 -- what the second report program prints, of an input that it read into such a buffer, is the balanced report of the whole input
 pub balanced-program : (whole buffer text : List ℕ) (n : ℕ) → input_room ≤ length buffer → longest_report ≤ length text → Gives whole buffer n
-    → let read = take n buffer in take (text_answer (balanced_report_of read) (length text)).length (after_text (balanced_report_of read) text) ≡ balanced_report_of whole
+    → let read = take n buffer in take (value_or 0 (text_answer (balanced_report_of read) (length text))) (after_text (balanced_report_of read) text) ≡ balanced_report_of whole
 balanced-program whole buffer text n h k g = rendered.balanced-whole (take n buffer) text _ _ k refl refl ∙ programs.whole-input balanced_report_of input_room inputs.balanced-cut-off whole buffer n h g
 
 -- of an accepted file that is the report of its trial's balanced run, with ranks as critical values, printed whole; a refused one prints as in the report
@@ -403,21 +404,21 @@ pub balanced-trials : (t : Trial) (idle : ℕ → Bool) (runs : ℕ → Trial) �
     → ((g : ℕ) → g < row_total t → Keeps t (runs g))
     → ((g : ℕ) → g < row_total t → ListedOn idle g t (runs g))
     → (places work : ℕ) → row_total t * t.shape.offers ≤ places → row_total t ≤ work
-    → runs_that_reject t.shape.k (row_total t) idle (λ g. verdicts_in t.shape.offers (trial_balanced_answer (runs g) places work)) ≤ allowance (row_total t) t.level.a t.level.b
+    → runs_that_reject t.shape.k (row_total t) idle (λ g. verdicts_in t.shape.offers (value_or blank_run (trial_balanced_answer (runs g) places work))) ≤ allowance (row_total t) t.level.a t.level.b
 balanced-trials = balanced-trials-answered
 
 pub balanced-tables : (rows columns k a b : ℕ) (t : List Float) (idle : ℕ → Bool) (runs : ℕ → List Float) (o : ℕ) → table_refusal t rows columns k a b o ≡ 0
     → ((g : ℕ) → g < rows → table_refusal (runs g) rows columns k a b g ≡ 0)
     → ((g : ℕ) → g < rows → SameOn idle rows columns t (runs g))
     → (places work : ℕ) → rows * columns ≤ places → rows ≤ work
-    → runs_that_reject k rows idle (λ g. verdicts_in columns (balanced_answer (runs g) rows columns k a b g places work)) ≤ allowance rows a b
+    → runs_that_reject k rows idle (λ g. verdicts_in columns (value_or blank_run (balanced_answer (runs g) rows columns k a b g places work))) ≤ allowance rows a b
 balanced-tables = balanced-tables-answered
 
 -- balanced tables with ties and with both zeros; those of W, and of milk and saffron, with their runs
 pub balanced-examples : (map (λ x. balanced_table x.table x.rows x.columns) ranked.examples ≡ map (λ x. x.told) ranked.examples) × (map (λ x. x.asked) balanced.examples ≡ map (λ x. x.told) balanced.examples)
 balanced-examples = (rank-examples.all-examples, balance-examples.all-examples)
 
--- ==== Offers that never sold (document 02, §4) ====
+-- ==== Offers that never sold ====
 
 -- in an accepted paired trial an offer (from 0) has not been tested exactly where its difference is 0 in every pair, as the record holds them, offer by offer
 pub not_tested : (t : Trial) → ArrayLengths t → trial_refusal t ≡ 0 → (i : ℕ) → i < t.shape.offers → (pairs : ℕ) → t.shape.design ≡ Paired pairs
@@ -445,7 +446,7 @@ module _ (t : Trial) (i : ℕ) (h : i < t.shape.offers) where
   unfolding trial_run trial_balanced_run
   bytes-tell d = (run-tells (trial_rows t) (trial_start t) refl i h d, run-tells (balanced_rows (trial_rows t)) (trial_start t) refl i h d)
 
-  -- the count of an offer that remains is that of document 01
+  -- the count of an offer that remains: the rows that reach its observed value
   pub tested-count : untested t.shape.design (figures_at t i) ≡ false → get_or (trial_run t).counts i 0 ≡ at_least (trial_rows t) (get_or (get_or (trial_rows t) 0 []) i nan) i
   unfolding trial_run
   tested-count = asides.tested-count t (trial_rows t) i h
@@ -457,7 +458,7 @@ unfolding trial_verdicts_refusal trial_verdicts_buffer trial_balanced_verdicts_b
 c-bytes file buf ok i l d = (bytes.byte-told trial_rows file buf ok i l d, bytes.byte-told (λ t. balanced_rows (trial_rows t)) file buf ok i l d)
 
 -- demand 2 is read over the offers that remain: the run of an accepted trial is that of the table of these offers alone, with all its columns. Its records are
--- the same, but that their offers count in the trial (§5), and of the offers that remain, in their order, verdicts and counts; so are the balanced run and the figures
+-- the same, but that their offers count in the trial, and of the offers that remain, in their order, verdicts and counts; so are the balanced run and the figures
 module _ (t : Trial) (ok : trial_refusal t ≡ 0) where
   pub as-without : Without t (trial_run t) (table_run (remaining_table t) (row_total t) (size (live_offers t)) t.shape.k t.level.a t.level.b 0)
   as-without = without.trial-without t ok
@@ -481,7 +482,7 @@ module _ (t : Trial) (few : size (live_offers t) < t.shape.k) where
   unfolding trial_run trial_balanced_run
   no_step = (asides.few-none t (trial_rows t) few, asides.few-none t (balanced_rows (trial_rows t)) few)
 
-  pub none-rejected : (rejected_count t.shape.offers (accepted_run (trial_run t)).decisions ≡ 0) × (rejected_count t.shape.offers (accepted_run (trial_balanced_run t)).decisions ≡ 0)
+  pub none-rejected : (rejected_count t.shape.offers (accepted_run (trial_run t)).verdicts ≡ 0) × (rejected_count t.shape.offers (accepted_run (trial_balanced_run t)).verdicts ≡ 0)
   unfolding trial_run trial_balanced_run
   none-rejected = (lines.few-end t (trial_rows t) few, lines.few-end t (balanced_rows (trial_rows t)) few)
 
@@ -507,7 +508,7 @@ idle-alike = runs-of-trials.idle-alike
 pub tables-tested : (t : List Float) (rows columns k a b observed j : ℕ) → j < columns → (d : Verdict) → is_aside (get_or (table_run t rows columns k a b observed).verdicts j d) ≡ false
 tables-tested = told.table-tested
 
--- ==== Which offer set the bar (document 02, §5) ====
+-- ==== Which offer set the bar ====
 
 -- the record of an accepted step tells who set its critical value. `SetBy` says what that is, as facts that are checked without looking for them: a set that the step
 -- looked at gives the critical value, those before it a smaller one, and none a larger one; over it the row's k-max equals that value, and no lower row's does; the offer
@@ -563,7 +564,7 @@ step_lines l r i = refl
 pub bar-examples : map (λ x. x.asked) ties.bars ≡ map (λ x. x.told) ties.bars
 bar-examples = all-bars
 
--- ==== Shops without partners (document 02, §6) ====
+-- ==== Shops without partners ====
 
 -- the shape word of kind 5: k, offers, shops and treated shops in bits 27-24, 23-16, 15-8 and 7-0. Both round trips (`write_read`, `read-write`)
 -- hold for both kinds
@@ -619,11 +620,11 @@ module _ (t : Trial) (shops treated : ℕ) (laid : t.shape.design ≡ Unpaired s
     (keeps : (g : ℕ) → g < length (choices shops treated) → Keeps t (runs g))
     (named : (g : ℕ) → g < length (choices shops treated) → (i : ℕ) → i < t.shape.offers → T (idle i) → let c = choice_at shops treated g in figures_at (runs g) i ≡ within c (figures_at t i) ++ within (map not c) (figures_at t i))
     (places work : ℕ) (room : length (choices shops treated) * t.shape.offers ≤ places) (rows : length (choices shops treated) ≤ work) where
-  pub shops-trials : runs_that_reject t.shape.k (length (choices shops treated)) idle (λ g. verdicts_in t.shape.offers (trial_answer (runs g) places work)) ≤ allowance (length (choices shops treated)) t.level.a t.level.b
+  pub shops-trials : runs_that_reject t.shape.k (length (choices shops treated)) idle (λ g. verdicts_in t.shape.offers (value_or blank_run (trial_answer (runs g) places work))) ≤ allowance (length (choices shops treated)) t.level.a t.level.b
   unfolding chosen_first
   shops-trials = in-shops-of.shops-answered t shops treated laid idle runs sized ok oks keeps named places work room rows
 
-  pub shops-balanced-trials : runs_that_reject t.shape.k (length (choices shops treated)) idle (λ g. verdicts_in t.shape.offers (trial_balanced_answer (runs g) places work)) ≤ allowance (length (choices shops treated)) t.level.a t.level.b
+  pub shops-balanced-trials : runs_that_reject t.shape.k (length (choices shops treated)) idle (λ g. verdicts_in t.shape.offers (value_or blank_run (trial_balanced_answer (runs g) places work))) ≤ allowance (length (choices shops treated)) t.level.a t.level.b
   unfolding chosen_first
   shops-balanced-trials = in-shops-of.shops-balanced-answered t shops treated laid idle runs sized ok oks keeps named places work room rows
 

@@ -1,10 +1,10 @@
--- Reports letter by letter, from the bytes of a file: W as printed, a starred example of document 01, and balanced; both reports of the trial milk and
--- saffron (document 02, §3), of trials with offers that are set aside (§4), and of shops without partners (§6).
+-- Reports letter by letter, from the bytes of a file: W as printed, and balanced; both reports of the trial milk and
+-- saffron, of trials with offers that are set aside, and of shops without partners.
 --   w-report, w-balanced-report                 of W
 --   saffron-read                                the file of milk and saffron is read as its trial
 --   saffron-report, saffron-balanced-report     of milk and saffron: the milk sets the critical value; balanced, saffron is rejected
 --   aside-report, aside-balanced-report         of W with a third offer of zeros: W's lines and that offer's
---   front-report         the same with that offer in front: who set the bar is told by its code (§5)
+--   front-report         the same with that offer in front: who set the bar is told by its code
 --   cancelled-report     of two offers with k 2: the differences of 0042 cancel, and it is not set aside; but fewer than k offers remain, so no step is run
 --   zeros-report         of two offers of zeros: none remains
 --   shops-report, shops-balanced-report         of 4 shops, 2 of them treated
@@ -18,6 +18,7 @@ use Rattle.trialfile.specs.Examples.{words_w, words_saffron, words_aside, words_
 use Rattle.trialrun.specs.TrialRuns.{trial_run}
 use Rattle.trialbalance.specs.TrialBalance.{trial_balanced_run}
 use Rattle.trialbalance.specs.Examples.{trial_saffron}
+use Rattle.std.proofs.Common.{Ok}
 use Rattle.text.specs.Ascii.{ascii}
 use Rattle.text.specs.Text.{printed, decimal_up_to}
 use Rattle.rendering.specs.Reports.{report_of, balanced_report_of}
@@ -30,7 +31,7 @@ pub w-balanced-report : balanced_report_of (bytes_of words_w) ≡ ascii "trial 3
 unfolding balanced_report_of bytes_of words_w signed accepted_run trial_balanced_run lt le to_signed printed decimal_up_to
 w-balanced-report = refl
 
-pub saffron-read : reading_of (bytes_of words_saffron) ≡ record { refusal = 0; trial = trial_saffron }
+pub saffron-read : reading_of (bytes_of words_saffron) ≡ Ok trial_saffron
 unfolding reading_of bytes_of words_saffron trial_saffron signed
 saffron-read = refl
 

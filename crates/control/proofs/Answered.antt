@@ -12,17 +12,17 @@ use lib.Seq.{take_at}
 use lib.Ieee.{Float}
 use Rattle.order.specs.Order.{plus_zero}
 use Rattle.order.specs.Lists.{rows_of}
-use Rattle.refusals.specs.Answers.{Checks, answer, first_refusal}
+use Rattle.refusals.specs.Answers.{Checks, outcome, value_or, first_refusal}
 use Rattle.refusals.specs.Buffers.{too_short}
 use Rattle.refusals.specs.Limits.{allowance}
-use Rattle.refusals.proofs.Answers.{answered, first_passes}
+use Rattle.refusals.proofs.Answers.{value-passed, first_passes}
 use Rattle.refusals.proofs.Buffers.{lent-passes}
 use Rattle.runs.specs.Stepdown.{Outcome}
-use Rattle.runs.specs.FullRuns.{decision, accepted_run, refused_run, verdicts_in}
+use Rattle.runs.specs.FullRuns.{accepted_run, blank_run, verdicts_in}
 use Rattle.runs.specs.Tables.{table_start, table_run}
 use Rattle.runs.specs.declared.Verdict.{Verdict}
 use Rattle.runs.specs.declared.Verdict.TheVariants.{Kept}
-use Rattle.runs.proofs.Told.{verdicts-length}
+use Rattle.runs.proofs.ToldColumns.{verdicts-length}
 use Rattle.stepdown.specs.Refusals.{table_checks, table_refusal, table_run_checks}
 use Rattle.stepdown.specs.Answers.{full_answer}
 use Rattle.balance.specs.Balance.{balanced_rows, balanced_table}
@@ -38,17 +38,13 @@ use Rattle.control.proofs.Tables.{tables, balanced-tables}
 use Rattle.control.proofs.Trials.{trials, balanced-trials, same_total}
 use Rattle.control.specs.Statements.{runs_that_reject, SameOn, ListedOn}
 
-undecided : (vs : List Verdict) → map (λ d. d.verdict) (map decision vs) ≡ vs
-undecided [] = refl
-undecided (v ∷ vs) = ap (λ (l : List Verdict). v ∷ l) (undecided vs)
-
 pub verdicts-told : (n : ℕ) (o : Outcome) → length o.verdicts ≡ n → verdicts_in n (accepted_run o) ≡ o.verdicts
 unfolding accepted_run
-verdicts-told n o h = ap (map (λ d. d.verdict)) (take_at (map decision o.verdicts) (replicate (32 - length (map decision o.verdicts)) (decision (Kept plus_zero))) n (length-map o.verdicts decision ∙ h)) ∙ undecided o.verdicts
+verdicts-told n o h = take_at o.verdicts (replicate (32 - length o.verdicts) (Kept plus_zero)) n h
 
 -- and of a call that nothing refuses
-shown : (n : ℕ) (cs : Checks) (o : Outcome) → first_refusal cs ≡ 0 → length o.verdicts ≡ n → verdicts_in n (answer cs (accepted_run o) refused_run) ≡ o.verdicts
-shown n cs o ok h = ap (verdicts_in n) ((answered cs (accepted_run o) refused_run).gives ok) ∙ verdicts-told n o h
+shown : (n : ℕ) (cs : Checks) (o : Outcome) → first_refusal cs ≡ 0 → length o.verdicts ≡ n → verdicts_in n (value_or blank_run (outcome cs (accepted_run o))) ≡ o.verdicts
+shown n cs o ok h = ap (verdicts_in n) (value-passed cs (accepted_run o) blank_run ok) ∙ verdicts-told n o h
 
 run-verdicts : (t : List Float) (rows columns k a b o : ℕ) → length (table_run t rows columns k a b o).verdicts ≡ columns
 unfolding table_run
@@ -66,7 +62,7 @@ module _ (rows columns k a b : ℕ) (t : List Float) (idle : ℕ → Bool) (runs
   unfolding table_refusal
   run-passes work h g l = lent-passes (table_checks (runs g) rows columns k a b g) work rows (oks g l) h
 
-  pub tables-answered : (work : ℕ) → rows ≤ work → runs_that_reject k rows idle (λ g. verdicts_in columns (full_answer (runs g) rows columns k a b g work)) ≤ e
+  pub tables-answered : (work : ℕ) → rows ≤ work → runs_that_reject k rows idle (λ g. verdicts_in columns (value_or blank_run (full_answer (runs g) rows columns k a b g work))) ≤ e
   unfolding full_answer
   tables-answered work h =
       counted k rows e idle _ _
@@ -74,7 +70,7 @@ module _ (rows columns k a b : ℕ) (t : List Float) (idle : ℕ → Bool) (runs
       (tables rows columns k a b t idle runs o ok oks same)
 
   pub balanced-tables-answered : (places work : ℕ) → rows * columns ≤ places → rows ≤ work
-      → runs_that_reject k rows idle (λ g. verdicts_in columns (balanced_answer (runs g) rows columns k a b g places work)) ≤ e
+      → runs_that_reject k rows idle (λ g. verdicts_in columns (value_or blank_run (balanced_answer (runs g) rows columns k a b g places work))) ≤ e
   unfolding balanced_answer balanced_run
   balanced-tables-answered places work r h =
       counted k rows e idle _ _
@@ -106,17 +102,17 @@ module _ (t : Trial) (idle : ℕ → Bool) (runs : ℕ → Trial) (ty : ArrayLen
     (listing : (g : ℕ) → g < row_total t → ListedOn idle g t (runs g)) where
   module _ (places work : ℕ) (h : row_total t * t.shape.offers ≤ places) (l : row_total t ≤ work) where
     trial-shown : (out : Trial → Outcome) → ((u : Trial) → length (out u).verdicts ≡ u.shape.offers) → (g : ℕ) → g < row_total t
-        → verdicts_in t.shape.offers (answer (run_call_checks (runs g) places work) (accepted_run (out (runs g))) refused_run) ≡ (out (runs g)).verdicts
+        → verdicts_in t.shape.offers (value_or blank_run (outcome (run_call_checks (runs g) places work) (accepted_run (out (runs g))))) ≡ (out (runs g)).verdicts
     trial-shown out long g m =
         let q = same_total t (runs g) (keeps g m) in
         let p = ap (λ (s : Setting). s.shape.offers) (keeps g m) in
         shown t.shape.offers (run_call_checks (runs g) places work) (out (runs g))
         (trial-passes (runs g) places work (subst (λ (n : ℕ). n ≤ places) (sym (ap₂ (λ (x y : ℕ). x * y) q p)) h) (omega arith) (oks g m)) (long (runs g) ∙ p)
 
-    pub trials-answered : runs_that_reject t.shape.k (row_total t) idle (λ g. verdicts_in t.shape.offers (trial_answer (runs g) places work)) ≤ allowance (row_total t) t.level.a t.level.b
+    pub trials-answered : runs_that_reject t.shape.k (row_total t) idle (λ g. verdicts_in t.shape.offers (value_or blank_run (trial_answer (runs g) places work))) ≤ allowance (row_total t) t.level.a t.level.b
     unfolding trial_answer
     trials-answered = counted t.shape.k (row_total t) _ idle _ _ (trial-shown trial_run trial-verdicts) (trials t idle runs ty ok oks keeps listing)
 
-    pub balanced-trials-answered : runs_that_reject t.shape.k (row_total t) idle (λ g. verdicts_in t.shape.offers (trial_balanced_answer (runs g) places work)) ≤ allowance (row_total t) t.level.a t.level.b
+    pub balanced-trials-answered : runs_that_reject t.shape.k (row_total t) idle (λ g. verdicts_in t.shape.offers (value_or blank_run (trial_balanced_answer (runs g) places work))) ≤ allowance (row_total t) t.level.a t.level.b
     unfolding trial_balanced_answer
     balanced-trials-answered = counted t.shape.k (row_total t) _ idle _ _ (trial-shown trial_balanced_run balanced-verdicts) (balanced-trials t idle runs ty ok oks keeps listing)

@@ -35,7 +35,7 @@ use Rattle.runs.specs.declared.Verdict.{Verdict}
 use Rattle.runs.specs.declared.Verdict.TheVariants.{Kept}
 use Rattle.runs.proofs.Steps.{rejected-length}
 use Rattle.runs.proofs.Start.{first-empty}
-use Rattle.runs.proofs.Told.{verdicts-length, rejected-told}
+use Rattle.runs.proofs.ToldColumns.{verdicts-length, rejected-told}
 use Rattle.control.proofs.OneRun.{above_key, above_key-length, rejected-above, Held}
 use Rattle.control.specs.Statements.{rejected_among, runs_that_reject}
 

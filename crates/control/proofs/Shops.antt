@@ -8,7 +8,8 @@ use mathlib.Core.Bool.{Bool}
 use lib.ListN.{length}
 use lib.Dec.{T}
 use Rattle.refusals.specs.Limits.{allowance}
-use Rattle.runs.specs.FullRuns.{verdicts_in}
+use Rattle.refusals.specs.Answers.{value_or}
+use Rattle.runs.specs.FullRuns.{blank_run, verdicts_in}
 use Rattle.trial.specs.Choices.{choices, choice_at, chosen_first}
 use Rattle.trial.specs.Designs.{row_count, listed}
 use Rattle.trial.specs.Exchange.{row_total, figures_at}
@@ -42,12 +43,12 @@ module _ (t : Trial) (shops treated : ℕ) (laid : t.shape.design ≡ Unpaired s
     room : row_total t * t.shape.offers ≤ places
     room = rw rows-chosen h
 
-    pub shops-answered : runs_that_reject t.shape.k (length (choices shops treated)) idle (λ g. verdicts_in t.shape.offers (trial_answer (runs g) places work))
+    pub shops-answered : runs_that_reject t.shape.k (length (choices shops treated)) idle (λ g. verdicts_in t.shape.offers (value_or blank_run (trial_answer (runs g) places work)))
         ≤ allowance (length (choices shops treated)) t.level.a t.level.b
-    shops-answered = subst (λ (n : ℕ). runs_that_reject t.shape.k n idle (λ g. verdicts_in t.shape.offers (trial_answer (runs g) places work)) ≤ allowance n t.level.a t.level.b) rows-chosen
+    shops-answered = subst (λ (n : ℕ). runs_that_reject t.shape.k n idle (λ g. verdicts_in t.shape.offers (value_or blank_run (trial_answer (runs g) places work))) ≤ allowance n t.level.a t.level.b) rows-chosen
         (trials-answered t idle runs ty ok (λ g m. oks g (below g m)) (λ g m. keeps g (below g m)) listing places work room (omega (arith, rows-chosen)))
 
-    pub shops-balanced-answered : runs_that_reject t.shape.k (length (choices shops treated)) idle (λ g. verdicts_in t.shape.offers (trial_balanced_answer (runs g) places work))
+    pub shops-balanced-answered : runs_that_reject t.shape.k (length (choices shops treated)) idle (λ g. verdicts_in t.shape.offers (value_or blank_run (trial_balanced_answer (runs g) places work)))
         ≤ allowance (length (choices shops treated)) t.level.a t.level.b
-    shops-balanced-answered = subst (λ (n : ℕ). runs_that_reject t.shape.k n idle (λ g. verdicts_in t.shape.offers (trial_balanced_answer (runs g) places work)) ≤ allowance n t.level.a t.level.b) rows-chosen
+    shops-balanced-answered = subst (λ (n : ℕ). runs_that_reject t.shape.k n idle (λ g. verdicts_in t.shape.offers (value_or blank_run (trial_balanced_answer (runs g) places work))) ≤ allowance n t.level.a t.level.b) rows-chosen
         (balanced-trials-answered t idle runs ty ok (λ g m. oks g (below g m)) (λ g m. keeps g (below g m)) listing places work room (omega (arith, rows-chosen)))

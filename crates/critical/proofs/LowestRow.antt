@@ -1,9 +1,9 @@
 -- The lowest row that has a value.
 --   no-k-max                   where no value of a row equals v, its k-max over listed columns does not
 --   FromRow, rows_start, rows-hit, rows_on, rows_out     a search over the rows
---   one-checked, one_found     with k = 1, which is written out
+--   one_found                  with k = 1, which is written out
 --   found-is                   the same among the k-max values of all rows, in the work buffer
-use Prim.Native.Nat.{ℕ, ◌+◌, ◌-◌, ◌*◌, ◌≤◌, ◌<◌}
+use Prim.Native.Nat.{ℕ, ◌+◌, ◌-◌, ◌≤◌, ◌<◌}
 use native.Mathlib.Omega.{arith}
 use mathlib.Core.Path.{◌≡◌, refl, sym, ap, ap₂, ◌∙◌, subst}
 use mathlib.Core.Bool.{Bool, true, false, not}
@@ -58,17 +58,18 @@ module _ (t : List Float) (rows cols k set : ℕ) (v : Float) where
   unfolding bar_row
   rows_start = omega arith
 
-  pub rows_out : (g : ℕ) → rows ≤ g → g ≤ rows → FromRow g → g ≡ bar_row k (rows_of rows cols t) (columns_of cols set) v
+  pub rows_out : (g : ℕ) → rows ≤ g → g ≤ rows → FromRow g → rows ≡ bar_row k (rows_of rows cols t) (columns_of cols set) v
   unfolding bar_row
-  rows_out g h l q = first_out (λ row. equal v (k_max k (columns_of cols set) row)) (rows_of rows cols t) [] g (omega (arith, rows_of-length rows cols t)) (omega (arith, rows_of-length rows cols t)) q
+  rows_out g h l q = let z : rows ≡ g = omega arith in z ∙ first_out (λ row. equal v (k_max k (columns_of cols set) row)) (rows_of rows cols t) [] g (omega (arith, rows_of-length rows cols t)) (omega (arith, rows_of-length rows cols t)) q
 
-  module _ (list : List ℕ) (r : CheckedTable t rows cols k) (listed : list ≡ members_from 0 (columns_of cols set)) (g : ℕ) (h : g < rows) where
+  module _ (list : List ℕ) (r : CheckedTable t rows cols k) (listed : list ≡ members_from 0 (columns_of cols set)) (g : ℕ) (h : g < rows)
+      (part : List Float) (own : part ≡ get_or (rows_of rows cols t) g []) where
     -- what `has_k_max` answers for row g
     abbrev pub row_has : Bool
-    row_has = equal v (kth_largest k (map (λ j. get_or (take (g * cols + cols - g * cols) (drop (g * cols) t)) j nan) list))
+    row_has = equal v (kth_largest k (map (λ j. get_or part j nan) list))
 
     row-test : {b : Bool} → b ≡ row_has → (c : Bool) → b ≡ c → equal v (k_max k (columns_of cols set) (get_or (rows_of rows cols t) g [])) ≡ c
-    row-test e c q = ap (equal v) (sym (row-value t rows cols k set list r listed g h refl)) ∙ sym e ∙ q
+    row-test e c q = ap (equal v) (sym (row-value t rows cols k set list r listed g h part own refl)) ∙ sym e ∙ q
 
     tall : g < length (rows_of rows cols t)
     tall = omega (arith, rows_of-length rows cols t)
@@ -84,9 +85,6 @@ module _ (t : List Float) (rows cols k set : ℕ) (v : Float) where
 -- ---- among the k-max values of all rows
 
 -- with k = 1, which is written out
-pub one-checked : {t : List Float} {rows cols k : ℕ} → CheckedTable t rows cols k → k ≡ 1 → CheckedTable t rows cols 1
-one-checked {t} {rows} {cols} r one = subst (λ (m : ℕ). CheckedTable t rows cols m) one r
-
 pub one_found : (X : List (List Float)) (k e cols set : ℕ) (c : Found) → k ≡ 1 → c ≡ found_of 1 e X (columns_of cols set) → c ≡ found_of k e X (columns_of cols set)
 one_found X k e cols set c one q = q ∙ ap (λ (m : ℕ). found_of m e X (columns_of cols set)) (sym one)
 

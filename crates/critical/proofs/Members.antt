@@ -2,8 +2,9 @@
 --   members-within       a row's values at them
 --   members-length, members-below     how many there are, and that they are columns of the row
 --   listed-finite        a row's values at listed columns are finite
---   column_fits, seen_more, seen_all     its four largest values at listed columns, one after the other
+--   column_fits, seen_more, seen_all     its largest values at listed columns, one after the other
 --   listed_start, listed_in, listed-past, listed-done     one after the other
+--   listed-room, listed_length, listed_is     the first places of the list, by the number of columns
 use Prim.Native.Nat.{ℕ, suc, ◌+◌, ◌-◌, ◌/◌, ◌%◌, ◌≤◌, ◌<◌}
 use native.Mathlib.Omega.{arith}
 use native.Mathlib.Numerals.{add-one}
@@ -11,7 +12,7 @@ use mathlib.Core.Path.{◌≡◌, refl, sym, ap, ap₂, ◌∙◌, subst}
 use mathlib.Core.Bool.{Bool, true, false, cond}
 use mathlib.Core.List.{List, [], ◌∷◌, ◌++◌, map}
 use lib.ListN.{length, get_or, drop, take, set, drop_of_length-le}
-use lib.Seq.{drop-cons, take-suc-set}
+use lib.Seq.{drop-cons, take-suc-set, length-take-le}
 use lib.Dec.{T, eqb, ltb, lt→ltb, ltb→lt}
 use lib.Ieee.{Float, nan}
 use borrow.Author.Tests.{eq-eqb, ne_eqb}
@@ -22,7 +23,6 @@ use Rattle.order.proofs.Counts.{all_get_d, all-le, all_map}
 use Rattle.columns.specs.Columns.{Columns, size, within, columns_of}
 use Rattle.masks.proofs.Walks.{split}
 use Rattle.critical.specs.Internal.{pushed, top_from, members_from}
-use Rattle.critical.specs.declared.kmax.Top.{Top}
 
 pub members-within : (row : List Float) (i : ℕ) (K : Columns) → i + length K ≤ length row → map (λ j. get_or row j nan) (members_from i K) ≡ within K (drop i row)
 unfolding members_from within
@@ -62,13 +62,13 @@ module _ (row : List Float) (list : List ℕ) (i : ℕ) (h : i < length list) wh
   pub column_fits : T (all (λ j. ltb j (length row)) list) → get_or list i 0 < length row
   column_fits s = ltb→lt (get_or list i 0) (length row) (all_get_d (λ j. ltb j (length row)) list i 0 h s)
 
-  pub seen_more : (t t' z : Top) → t' ≡ pushed t (get_or row (get_or list i 0) nan) → top_from t (map (λ j. get_or row j nan) (drop i list)) ≡ z → top_from t' (map (λ j. get_or row j nan) (drop (i + 1) list)) ≡ z
+  pub seen_more : (t t' z : List Float) → t' ≡ pushed t (get_or row (get_or list i 0) nan) → top_from t (map (λ j. get_or row j nan) (drop i list)) ≡ z → top_from t' (map (λ j. get_or row j nan) (drop (i + 1) list)) ≡ z
   unfolding top_from
   seen_more t t' z p q =
-      ap (λ (u : Top). top_from u (map (λ j. get_or row j nan) (drop (i + 1) list))) p ∙ ap (λ (n : ℕ). top_from (pushed t (get_or row (get_or list i 0) nan)) (map (λ j. get_or row j nan) (drop n list))) (add-one i)
+      ap (λ (u : List Float). top_from u (map (λ j. get_or row j nan) (drop (i + 1) list))) p ∙ ap (λ (n : ℕ). top_from (pushed t (get_or row (get_or list i 0) nan)) (map (λ j. get_or row j nan) (drop n list))) (add-one i)
       ∙ sym (ap (λ (l : List ℕ). top_from t (map (λ j. get_or row j nan) l)) (drop-cons list i 0 h)) ∙ q
 
-pub seen_all : (row : List Float) (list : List ℕ) (i : ℕ) (t z : Top) → length list ≤ i → top_from t (map (λ j. get_or row j nan) (drop i list)) ≡ z → t ≡ z
+pub seen_all : (row : List Float) (list : List ℕ) (i : ℕ) (t z : List Float) → length list ≤ i → top_from t (map (λ j. get_or row j nan) (drop i list)) ≡ z → t ≡ z
 unfolding top_from
 seen_all row list i t z h q = sym (ap (λ (l : List ℕ). top_from t (map (λ j. get_or row j nan) l)) (drop_of_length-le list {i = i} h)) ∙ q
 
@@ -96,10 +96,28 @@ module _ (cols s i n : ℕ) (at : List ℕ) (t : List ℕ) (h : i < cols) (w : t
   listed-past m us e u f =
       ap₂ (λ (j : ℕ) (a : List ℕ). take j a ++ members_from (i + 1) (columns_of (cols - (i + 1)) (s / 2))) f u ∙ ap (λ (l : List ℕ). take n at ++ l) (sym (next false (ne_eqb (s % 2) 1 e))) ∙ w
 
-pub listed-done : (cols s i n : ℕ) (at t : List ℕ) → cols ≤ i → take n at ++ members_from i (columns_of (cols - i) s) ≡ t → take n at ≡ t
+listed-front : (cols s i n : ℕ) (at t : List ℕ) → cols ≤ i → take n at ++ members_from i (columns_of (cols - i) s) ≡ t → take n at ≡ t
 unfolding members_from columns_of
-listed-done cols s i n at t h w = let z : cols - i ≡ 0 = omega arith in sym (none (take n at)) ∙ ap (λ (m : ℕ). take n at ++ members_from i (columns_of m s)) (sym z) ∙ w
+listed-front cols s i n at t h w = let z : cols - i ≡ 0 = omega arith in sym (none (take n at)) ∙ ap (λ (m : ℕ). take n at ++ members_from i (columns_of m s)) (sym z) ∙ w
   where
     none : (l : List ℕ) → l ++ [] ≡ l
     none [] = refl
     none (x ∷ l) = ap (λ (m : List ℕ). x ∷ m) (none l)
+
+pub listed-done : (cols s₀ s i n : ℕ) (at : List ℕ) → cols ≤ i → i ≤ cols → n ≤ i → cols ≤ 32 → length at ≡ 32 → take n at ++ members_from i (columns_of (cols - i) s) ≡ members_from 0 (columns_of cols s₀)
+    → (size (columns_of cols s₀) ≤ length at) × (take (size (columns_of cols s₀)) at ≡ members_from 0 (columns_of cols s₀))
+listed-done cols s₀ s i n at h l f c m w =
+    let e = listed-front cols s i n at (members_from 0 (columns_of cols s₀)) h w in
+    let z : size (columns_of cols s₀) ≡ n = sym (members-length 0 (columns_of cols s₀)) ∙ ap length (sym e) ∙ length-take-le n at (omega arith) in
+    (omega arith, rw z e)
+
+-- the first n places, where n is the number of columns
+module _ (n m : ℕ) (at t : List ℕ) (e : n ≡ m) (f : (m ≤ length at) × (take m at ≡ t)) where
+  pub listed-room : n ≤ length at
+  listed-room = omega (arith, f.0)
+
+  pub listed_length : n ≡ length (take n at)
+  listed_length = sym (length-take-le n at listed-room)
+
+  pub listed_is : take n at ≡ t
+  listed_is = ap (λ (j : ℕ). take j at) e ∙ f.1

@@ -1,19 +1,18 @@
--- The four largest values of a list, met one by one.
---   Top4 total rest t    the j-th of t is above v exactly where j values above v are seen: of `total v`, `rest v` are still to come
---   top_start, top-push  at the start, with a value pushed
---   nth-first, nth-second, nth-third, nth-fourth     the k-th of four, by tests of k
---   nth-largest          with nothing to come, the k-th of t is the k-th largest, with plus zero for either zero
+-- The k largest values of a list, met one by one, for every k.
+--   Ranked total rest j ts     of the places from the j-th on the i-th is above v exactly where i values above v are seen: of `total v`, `rest v` are still to come
+--   top_start, top-push      at the start, with a value pushed; pushed_more, pushed_all: place after place
+--   nth-largest          with nothing to come, the k-th of k places is the k-th largest, with plus zero for either zero
 use Prim.Native.Nat.{ℕ, zero, suc, ◌+◌, ◌-◌, ◌≤◌, ◌<◌}
 use native.Mathlib.Omega.{arith}
 use native.Mathlib.Decide.{dec_lt, dec_le}
 use mathlib.Core.Path.{◌≡◌, refl, sym, ap, ◌∙◌, subst}
 use mathlib.Core.Logic.{◌↔◌}
 use mathlib.Core.Bool.{Bool, true, false, cond}
-use mathlib.Core.List.{List, [], ◌∷◌}
-use lib.ListN.{length}
+use mathlib.Core.List.{List, [], ◌∷◌, ◌++◌}
+use lib.ListN.{length, get_or, take, drop, set, replicate, length-replicate}
 use lib.Dec.{T, ltb}
-use lib.Ieee.{Float, inf}
-use borrow.Author.Tests.{lt-ltb, le-ltb, ltb-true, ltb-false, eq-eqb, ne_eqb}
+use lib.Ieee.{Float, inf, nan}
+use borrow.Author.Tests.{lt-ltb, le-ltb, ltb-true, ltb-false}
 use Rattle.order.specs.Order.{finite, low, smaller, larger, lesser, with_plus_zero}
 use Rattle.order.specs.Counting.{bit, count, all}
 use Rattle.order.proofs.Booleans.{not-below, and_left, and_right}
@@ -22,8 +21,7 @@ use Rattle.order.proofs.Keys.{key, key-some, with_plus_zero-same}
 use Rattle.order.proofs.Rows.{Finite}
 use Rattle.select.specs.Rank.{kth_largest}
 use Rattle.select.proofs.Ranks.{Ranks, above, kth_largest-ranks, kth_largest-law}
-use Rattle.critical.specs.Internal.{four, blank, pushed, top_from, nth}
-use Rattle.critical.specs.declared.kmax.Top.{Top}
+use Rattle.critical.specs.Internal.{pushed, top_from}
 
 -- ---- counts over keys
 
@@ -31,13 +29,10 @@ use Rattle.critical.specs.declared.kmax.Top.{Top}
 abbrev Seen : (ℕ → ℕ) → (ℕ → ℕ) → ℕ → ℕ → Type 0
 Seen total rest j x = (v : ℕ) → (v < x) ↔ (j + rest v ≤ total v)
 
-pub record Top4 (total rest : ℕ → ℕ) (t : Top) : Type 0 where
-  pub lows : T (low t.a) × T (low t.b) × T (low t.c) × T (low t.d)
-  pub some : (v : ℕ) → rest v ≤ total v
-  pub first : Seen total rest 1 (key t.a)
-  pub second : Seen total rest 2 (key t.b)
-  pub third : Seen total rest 3 (key t.c)
-  pub fourth : Seen total rest 4 (key t.d)
+-- the places of a list from the j-th on, each with the rank of its place
+abbrev pub Ranked : (ℕ → ℕ) → (ℕ → ℕ) → ℕ → List Float → Type 0
+Ranked total rest j [] = Unit {0}
+Ranked total rest j (t ∷ ts) = T (low t) × Seen total rest (suc j) (key t) × Ranked total rest (suc j) ts
 
 -- the j-th, a value x lying above: it comes from the (j - 1)-th; x lying above that too: from x
 module _ (total rest rest' : ℕ → ℕ) (x : ℕ) (step : (v : ℕ) → rest v ≡ bit (ltb v x) + rest' v) where
@@ -145,102 +140,86 @@ module _ (total rest rest' : ℕ → ℕ) (x : Float) (f : T (finite x)) (step :
       go (yes b) = subst (λ (m : ℕ). Seen total rest' 1 m) (sym (k.1 b)) (stays total rest rest' (key x) step 1 (key a) b s some)
       go (no b) = subst (λ (m : ℕ). Seen total rest' 1 m) (sym (k.0 (omega (arith, b)))) (leads total rest rest' (key x) step (key a) (omega (arith, b)) s some)
 
-  top-push : (t : Top) → Top4 total rest t → Top4 total rest' (pushed t x)
+  -- the places after the j-th, z, which gives up p
+  push-later : (j : ℕ) (z p : Float) (ts : List Float) → Given z p → Seen total rest j (key z) → Ranked total rest j ts → Ranked total rest' j (pushed ts p)
   unfolding pushed
-  top-push t h =
-      let la = h.lows.0 in
-      let lb = h.lows.1 in
-      let lc = h.lows.2 in
-      let ba = falls total rest 1 (key t.b) (key t.a) h.second h.first in
-      let cb = falls total rest 2 (key t.c) (key t.b) h.third h.second in
-      let dc = falls total rest 3 (key t.d) (key t.c) h.fourth h.third in
-      let p = lesser t.a x in
-      let q = lesser t.b p in
-      let r = lesser t.c q in
-      let gp = gives-first t.a la in
-      let gq = gives-next t.a t.b p lb ba gp in
-      let gr = gives-next t.b t.c q lc cb gq in
-      record {
-        lows = (
-          either-low (smaller t.a x) x t.a (finite-low x f) la,
-          either-low (smaller t.b p) p t.b gp.lowly lb,
-          either-low (smaller t.c q) q t.c gq.lowly lc,
-          either-low (smaller t.d r) r t.d gr.lowly h.lows.3,
-        );
-        some = λ v. omega (arith, step v, some v);
-        first = keeps-first t.a la h.first;
-        second = keeps 1 t.a t.b p lb ba gp h.second h.first;
-        third = keeps 2 t.b t.c q lc cb gq h.third h.second;
-        fourth = keeps 3 t.c t.d r h.lows.3 dc gr h.fourth h.third;
-      }
+  push-later j z p [] g s r = tt
+  push-later j z p (t ∷ ts) g s r =
+      let under = falls total rest j (key t) (key z) r.1 s in
+      (either-low (smaller t p) p t g.lowly r.0, keeps j z t p r.0 under g r.1 s, push-later (suc j) t (lesser t p) ts (gives-next z t p r.0 under g) r.1 r.2)
 
-pub top_start : (total : ℕ → ℕ) (t : Top) → t ≡ four (inf true) (inf true) (inf true) (inf true) → Top4 total total t
+  top-push : (ts : List Float) → Ranked total rest 0 ts → Ranked total rest' 0 (pushed ts x)
+  unfolding pushed
+  top-push [] r = tt
+  top-push (t ∷ ts) r = (either-low (smaller t x) x t (finite-low x f) r.0, keeps-first t r.0 r.1, push-later 1 t (lesser t x) ts (gives-first t r.0) r.1 r.2)
+
+top_start : (total : ℕ → ℕ) (j n : ℕ) → Ranked total total j (replicate n (inf true))
 unfolding key
-top_start total t e = rw e (record { lows = (tt, tt, tt, tt); some = λ v. omega arith; first = none 1 (omega arith); second = none 2 (omega arith); third = none 3 (omega arith); fourth = none 4 (omega arith) })
-  where
-    none : (j : ℕ) → 0 < j → Seen total total j 0
-    none j p v = (λ q. absurd (omega arith), λ q. absurd (omega arith))
+top_start total j zero = tt
+top_start total j (suc n) = (tt, λ v. (λ q. absurd (omega arith), λ q. absurd (omega arith)), top_start total (suc j) n)
 
-pub push-is : (t : Top) (x : Float) (p q r a b c d : Float) → p ≡ lesser t.a x → q ≡ lesser t.b p → r ≡ lesser t.c q → a ≡ larger t.a x → b ≡ larger t.b p → c ≡ larger t.c q → d ≡ larger t.d r
-    → four a b c d ≡ pushed t x
+-- a value pushed, place after place
+pub pushed_more : (ts : List Float) (i : ℕ) (x : Float) → i < length ts
+    → take (i + 1) (set ts i (larger (get_or ts i nan) x)) ++ pushed (drop (i + 1) (set ts i (larger (get_or ts i nan) x))) (lesser (get_or ts i nan) x) ≡ take i ts ++ pushed (drop i ts) x
 unfolding pushed
-push-is t x p q r a b c d e f g h k l m = simp (m, l, k, h, g, f, e)
+pushed_more [] i x h = absurd (omega arith)
+pushed_more (t ∷ ts) zero x h = refl
+pushed_more (t ∷ ts) (suc i) x h = let later : suc i + 1 ≡ suc (i + 1) = omega arith in rw later (ap (λ l. t ∷ l) (pushed_more ts i x (omega arith)))
+
+pub pushed_all : (ts : List Float) (i : ℕ) (x : Float) → length ts ≤ i → take i ts ++ pushed (drop i ts) x ≡ ts
+unfolding pushed
+pushed_all [] zero x h = refl
+pushed_all [] (suc i) x h = refl
+pushed_all (t ∷ ts) zero x h = absurd (omega arith)
+pushed_all (t ∷ ts) (suc i) x h = ap (λ l. t ∷ l) (pushed_all ts i x (omega arith))
 
 -- ---- a list of values
 
-top-all : (total : ℕ → ℕ) (t : Top) (xs : List Float) → Finite xs → Top4 total (λ v. above v xs) t → Top4 total (λ v. 0) (top_from t xs)
+top-all : (total : ℕ → ℕ) (ts xs : List Float) → Finite xs → ((v : ℕ) → above v xs ≤ total v) → Ranked total (λ v. above v xs) 0 ts → Ranked total (λ v. 0) 0 (top_from ts xs)
 unfolding top_from count all
-top-all total t [] fs h = h
-top-all total t (x ∷ xs) fs h =
-    top-all total (pushed t x) xs (and_right (finite x) (all finite xs) fs) (top-push total (λ v. above v (x ∷ xs)) (λ v. above v xs) x (and_left (finite x) (all finite xs) fs) (λ v. refl) h.some t h)
+top-all total ts [] fs some r = r
+top-all total ts (x ∷ xs) fs some r =
+    top-all total (pushed ts x) xs (and_right (finite x) (all finite xs) fs) (λ v. omega (arith, some v)) (top-push total (λ v. above v (x ∷ xs)) (λ v. above v xs) x (and_left (finite x) (all finite xs) fs) (λ v. refl) some ts r)
 
--- the k-th of four
+length-pushed : (ts : List Float) (x : Float) → length (pushed ts x) ≡ length ts
+unfolding pushed
+length-pushed [] x = refl
+length-pushed (t ∷ ts) x = omega (arith, length-pushed ts (lesser t x))
+
+length-top : (ts xs : List Float) → length (top_from ts xs) ≡ length ts
+unfolding top_from
+length-top ts [] = refl
+length-top ts (x ∷ xs) = length-top (pushed ts x) xs ∙ length-pushed ts x
+
+-- the place i
 record Nth (total rest : ℕ → ℕ) (k : ℕ) (x : Float) : Type 0 where
   lowly : T (low x)
   seen : Seen total rest k (key x)
 
-nth_seen : (total rest : ℕ → ℕ) (t : Top) (k : ℕ) → Top4 total rest t → 0 < k → k ≤ 4 → Nth total rest k (nth t k)
-unfolding nth
-nth_seen total rest t zero h p q = absurd (omega arith)
-nth_seen total rest t (suc zero) h p q = record { lowly = h.lows.0; seen = h.first }
-nth_seen total rest t (suc (suc zero)) h p q = record { lowly = h.lows.1; seen = h.second }
-nth_seen total rest t (suc (suc (suc zero))) h p q = record { lowly = h.lows.2; seen = h.third }
-nth_seen total rest t (suc (suc (suc (suc zero)))) h p q = record { lowly = h.lows.3; seen = h.fourth }
-nth_seen total rest t (suc (suc (suc (suc (suc k))))) h p q = absurd (omega arith)
+nth_seen : (total rest : ℕ → ℕ) (j i k : ℕ) (ts : List Float) → Ranked total rest j ts → i < length ts → suc (j + i) ≡ k → Nth total rest k (get_or ts i nan)
+nth_seen total rest j i k [] r h e = absurd (omega arith)
+nth_seen total rest j zero k (t ∷ ts) r h e = let z : suc j ≡ k = omega arith in record { lowly = r.0; seen = subst (λ (m : ℕ). Seen total rest m (key t)) z r.1 }
+nth_seen total rest j (suc i) k (t ∷ ts) r h e = nth_seen total rest (suc j) i k ts r.2 (omega arith) (omega arith)
 
-module _ (xs : List Float) (k : ℕ) (fs : Finite xs) (pos : 0 < k) (most : k ≤ 4) (enough : k ≤ length xs) where
-  found : Nth (λ v. above v xs) (λ v. 0) k (nth (top_from blank xs) k)
-  found = nth_seen (λ v. above v xs) (λ v. 0) (top_from blank xs) k (top-all (λ v. above v xs) blank xs fs (top_start (λ v. above v xs) blank refl)) pos most
+module _ (xs : List Float) (k : ℕ) (fs : Finite xs) (pos : 0 < k) (enough : k ≤ length xs) where
+  abbrev x : Float
+  x = get_or (top_from (replicate k (inf true)) xs) (k - 1) nan
 
-  same_key : key (nth (top_from blank xs) k) ≡ key (kth_largest k xs)
+  found : Nth (λ v. above v xs) (λ v. 0) k (get_or (top_from (replicate k (inf true)) xs) (k - 1) nan)
+  found =
+      nth_seen (λ v. above v xs) (λ v. 0) 0 (k - 1) k (top_from (replicate k (inf true)) xs) (top-all (λ v. above v xs) (replicate k (inf true)) xs fs (λ v. omega arith) (top_start (λ v. above v xs) 0 k))
+      (omega (arith, length-top (replicate k (inf true)) xs, length-replicate k (inf true))) (omega arith)
+
+  same_key : key (get_or (top_from (replicate k (inf true)) xs) (k - 1) nan) ≡ key (kth_largest k xs)
   same_key = omega (
     arith,
-    not-below (key (nth (top_from blank xs) k)) (key (kth_largest k xs)) (λ g. let v = key (nth (top_from blank xs) k) in let q : v < v = (found.seen v).1 (omega (arith, (kth_largest-law k xs fs pos enough v).0 g)) in omega arith),
-    not-below (key (kth_largest k xs)) (key (nth (top_from blank xs) k)) (λ g. let v = key (kth_largest k xs) in let q : v < v = (kth_largest-law k xs fs pos enough v).1 (omega (arith, (found.seen v).0 g)) in omega arith),
+    not-below (key x) (key (kth_largest k xs)) (λ g. let v = key x in let q : v < v = (found.seen v).1 (omega (arith, (kth_largest-law k xs fs pos enough v).0 g)) in omega arith),
+    not-below (key (kth_largest k xs)) (key x) (λ g. let v = key (kth_largest k xs) in let q : v < v = (kth_largest-law k xs fs pos enough v).1 (omega (arith, (found.seen v).0 g)) in omega arith),
   )
 
-  pub nth-largest : with_plus_zero (nth (top_from blank xs) k) ≡ kth_largest k xs
+  pub nth-largest : with_plus_zero (get_or (top_from (replicate k (inf true)) xs) (k - 1) nan) ≡ kth_largest k xs
   nth-largest =
-      with_plus_zero-same (nth (top_from blank xs) k) (kth_largest k xs) (low-finite (nth (top_from blank xs) k) found.lowly (omega (arith, same_key, key-some (kth_largest k xs) rank.finitely))) rank.finitely same_key ∙ rank.plain
+      with_plus_zero-same x (kth_largest k xs) (low-finite x found.lowly (omega (arith, same_key, key-some (kth_largest k xs) rank.finitely))) rank.finitely same_key ∙ rank.plain
     where
       rank : Ranks k xs (kth_largest k xs)
       rank = kth_largest-ranks k xs fs pos enough
-
--- ---- the k-th of four by tests of k
-
-module _ (t z : Top) (k : ℕ) (q : t ≡ z) where
-  pub nth-first : k ≡ 1 → t.a ≡ nth z k
-  unfolding nth
-  nth-first e = ap (λ (u : Top). u.a) q ∙ simp (eq-eqb k 1 e)
-
-  pub nth-second : (k ≡ 1 → ⊥) → k ≡ 2 → t.b ≡ nth z k
-  unfolding nth
-  nth-second n e = ap (λ (u : Top). u.b) q ∙ simp (ne_eqb k 1 n, eq-eqb k 2 e)
-
-  pub nth-third : (k ≡ 1 → ⊥) → (k ≡ 2 → ⊥) → k ≡ 3 → t.c ≡ nth z k
-  unfolding nth
-  nth-third n m e = ap (λ (u : Top). u.c) q ∙ simp (ne_eqb k 1 n, ne_eqb k 2 m, eq-eqb k 3 e)
-
-  pub nth-fourth : (k ≡ 1 → ⊥) → (k ≡ 2 → ⊥) → (k ≡ 3 → ⊥) → t.d ≡ nth z k
-  unfolding nth
-  nth-fourth n m l = ap (λ (u : Top). u.d) q ∙ simp (ne_eqb k 1 n, ne_eqb k 2 m, ne_eqb k 3 l)

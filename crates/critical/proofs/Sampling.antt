@@ -1,7 +1,7 @@
 -- A sample of the rows' k-max values.
 --   Sampled, sampled-start, sampled-turn     what holds as the values are filled in
 --   value-finite, quantile-low     a k-max value is finite, and so is a quantile of them
-use Prim.Native.Nat.{ℕ, ◌+◌, ◌-◌, ◌≤◌, ◌<◌}
+use Prim.Native.Nat.{ℕ, ◌+◌, ◌≤◌, ◌<◌}
 use native.Mathlib.Omega.{arith}
 use native.Mathlib.Numerals.{add-one}
 use mathlib.Core.Path.{◌≡◌, refl, sym, ap, ◌∙◌, subst}

@@ -1,7 +1,7 @@
 -- The rows of a checked table as parts of it, and their k-max values in the work buffer.
 --   row-ready, row-value, row-turn, rows_end     what row g's k-max asks for; it, in its place; all rows
 --   front-is, back_is, front-rank, quantile-is     all rows' k-max values, and their quantile
-use Prim.Native.Nat.{ℕ, ◌+◌, ◌-◌, ◌*◌, ◌≤◌, ◌<◌}
+use Prim.Native.Nat.{ℕ, ◌+◌, ◌-◌, ◌≤◌, ◌<◌}
 use native.Mathlib.Omega.{arith}
 use mathlib.Core.Path.{◌≡◌, sym, ap, ap₂, ◌∙◌, subst}
 use mathlib.Core.List.{List, [], map}
@@ -22,35 +22,33 @@ use Rattle.columns.proofs.Masks.{columns_of-length}
 use Rattle.method.specs.Method.{k_max, critical_value}
 use Rattle.method.proofs.Critical.{tops, tops-finite}
 use Rattle.masks.specs.Internal.{CheckedTable}
-use Rattle.masks.proofs.Parts.{part_length, part-finite, part-row}
+use Rattle.masks.proofs.Parts.{row-length, row-finite}
 use Rattle.critical.specs.Internal.{members_from}
 use Rattle.critical.proofs.Members.{members-within, members-length, members-below}
 
 -- ---- one row of the table
 
 -- its k-max over the listed columns of a set
-module _ (t : List Float) (rows cols k set : ℕ) (list : List ℕ) (r : CheckedTable t rows cols k) (listed : list ≡ members_from 0 (columns_of cols set)) (g : ℕ) (h : g < rows) where
-  abbrev part : List Float
-  part = take (g * cols + cols - g * cols) (drop (g * cols) t)
-
-  pub row-value : {v : Float} → v ≡ kth_largest k (map (λ j. get_or (take (g * cols + cols - g * cols) (drop (g * cols) t)) j nan) list) → v ≡ k_max k (columns_of cols set) (get_or (rows_of rows cols t) g [])
+module _ (t : List Float) (rows cols k set : ℕ) (list : List ℕ) (r : CheckedTable t rows cols k) (listed : list ≡ members_from 0 (columns_of cols set)) (g : ℕ) (h : g < rows)
+    (part : List Float) (own : part ≡ get_or (rows_of rows cols t) g []) where
+  pub row-value : {v : Float} → v ≡ kth_largest k (map (λ j. get_or part j nan) list) → v ≡ k_max k (columns_of cols set) (get_or (rows_of rows cols t) g [])
   unfolding k_max
   row-value e =
       e ∙ ap (λ (l : List ℕ). kth_largest k (map (λ j. get_or part j nan) l)) listed
-      ∙ ap (kth_largest k) (members-within part 0 (columns_of cols set) (omega (arith, columns_of-length cols set, part_length t rows cols k g r h)) ∙ ap (within (columns_of cols set)) (part-row t rows cols k g r h))
+      ∙ ap (kth_largest k) (members-within part 0 (columns_of cols set) (omega (arith, columns_of-length cols set, row-length t rows cols k g r h part own)) ∙ ap (within (columns_of cols set)) (own))
 
   pub row-ready : k ≤ size (columns_of cols set)
-      → T (all finite (take (g * cols + cols - g * cols) (drop (g * cols) t))) × T (all (λ j. ltb j (length (take (g * cols + cols - g * cols) (drop (g * cols) t)))) list) × (0 < k) × (k ≤ 4) × (k ≤ length list)
+      → T (all finite part) × T (all (λ j. ltb j (length part)) list) × (0 < k) × (k ≤ 4) × (k ≤ length list)
   row-ready wide = (
-    part-finite t rows cols k g r h,
-    subst (λ (l : List ℕ). T (all (λ j. ltb j (length part)) l)) (sym listed) (members-below (length part) 0 (columns_of cols set) (omega (arith, columns_of-length cols set, part_length t rows cols k g r h))),
+    row-finite t rows cols k g r h part own,
+    subst (λ (l : List ℕ). T (all (λ j. ltb j (length part)) l)) (sym listed) (members-below (length part) 0 (columns_of cols set) (omega (arith, columns_of-length cols set, row-length t rows cols k g r h part own))),
     r.k-some,
     r.k-most,
     omega (arith, wide, ap length listed, members-length 0 (columns_of cols set)),
   )
 
   pub row-turn : (w w₀ : List Float) {v : Float} → rows ≤ length w₀ → w ≡ filled (λ row. k_max k (columns_of cols set) row) (rows_of rows cols t) g w₀
-      → v ≡ kth_largest k (map (λ j. get_or (take (g * cols + cols - g * cols) (drop (g * cols) t)) j nan) list)
+      → v ≡ kth_largest k (map (λ j. get_or part j nan) list)
       → lib.ListN.set w g v ≡ filled (λ row. k_max k (columns_of cols set) row) (rows_of rows cols t) (g + 1) w₀
   row-turn w w₀ {v} l p e =
       filled-turn (λ row. k_max k (columns_of cols set) row) (rows_of rows cols t) w₀ [] g w v nan (omega (arith, rows_of-length rows cols t)) (omega arith) p (row-value e)

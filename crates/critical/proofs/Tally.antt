@@ -7,7 +7,7 @@ use native.Mathlib.Numerals.{add-one}
 use native.Mathlib.Decide.{dec_lt}
 use mathlib.Core.Path.{◌≡◌, refl, sym, ap, ap₂, ◌∙◌, subst}
 use mathlib.Core.List.{List, [], ◌∷◌, ◌++◌}
-use lib.ListN.{length, get_or, take, drop, set, replicate, length-set, length-replicate}
+use lib.ListN.{length, get_or, take, set, replicate, length-set, length-replicate}
 use lib.Seq.{length-take-le, take-suc, take_all, get_or-set_same, get_or-set_other, ext_get_or}
 use lib.Ieee.{Float, nan}
 use Rattle.order.specs.Order.{at_most}
@@ -17,7 +17,7 @@ use Rattle.order.proofs.Counts.{bit-one, count-append, count-length}
 use Rattle.order.proofs.Lists.{rows_of-length, row-entry, tabulate-length, tabulate-get_d, padded-length}
 use Rattle.method.specs.Method.{at_least}
 use Rattle.masks.specs.Internal.{CheckedTable}
-use Rattle.masks.proofs.Parts.{part_length, part-row}
+use Rattle.masks.proofs.Parts.{row-length}
 use Rattle.critical.specs.Internal.{Tallying}
 
 -- ---- one row
@@ -138,27 +138,28 @@ module _ {t : List Float} {rows columns observed k : ℕ} {counts : List ℕ} {g
         go (yes l) = omega (arith, w.counted j l, count-length (λ row. at_most (get_or t (observed * columns + j) nan) (get_or row j nan)) (take g X), length-take-le g X (omega (arith, rows_of-length rows columns t)), w.ready.rows-most)
         go (no l) = omega (arith, w.others j (omega (arith, l)))
 
-    pub surveyed-row : Tallying (take (g * columns + columns - g * columns) (drop (g * columns) t)) (take (observed * columns + columns - observed * columns) (drop (observed * columns) t)) counts
-    surveyed-row = record {
-      even = part_length t rows columns k observed w.ready w.seen ∙ sym (part_length t rows columns k g w.ready h);
-      room = omega (arith, part_length t rows columns k g w.ready h, w.room, w.ready.cols-most);
-      small = count_small;
-    }
-
-    module _ (counts' : List ℕ) (as_long : length counts' ≡ length counts)
-        (tallied : ((j : ℕ) → j < length (take (g * columns + columns - g * columns) (drop (g * columns) t)) → get_or counts' j 0 ≡ get_or counts j 0 + bit (at_most (get_or (take (observed * columns + columns - observed * columns) (drop (observed * columns) t)) j nan) (get_or (take (g * columns + columns - g * columns) (drop (g * columns) t)) j nan)))
-        × ((j : ℕ) → length (take (g * columns + columns - g * columns) (drop (g * columns) t)) ≤ j → get_or counts' j 0 ≡ get_or counts j 0)) where
-      observed-is : (j : ℕ) → j < columns → get_or (take (observed * columns + columns - observed * columns) (drop (observed * columns) t)) j nan ≡ get_or t (observed * columns + j) nan
-      observed-is j l = ap (λ (r : List Float). get_or r j nan) (part-row t rows columns k observed w.ready w.seen) ∙ row-entry t rows columns observed j nan w.seen l
-
-      pub surveyed-turn : Surveyed t rows columns observed k counts' (g + 1)
-      surveyed-turn = record {
-        ready = w.ready;
-        seen = w.seen;
-        place = omega arith;
-        room = as_long ∙ w.room;
-        counted = λ j l. tallied.0 j (omega (arith, part_length t rows columns k g w.ready h))
-            ∙ ap₂ (λ (a b : ℕ). a + b) (w.counted j l) (ap₂ (λ (x y : Float). bit (at_most x y)) (observed-is j l) (ap (λ (r : List Float). get_or r j nan) (part-row t rows columns k g w.ready h)))
-            ∙ sym (reached-more j);
-        others = λ j l. tallied.1 j (omega (arith, part_length t rows columns k g w.ready h)) ∙ w.others j l;
+    module _ (row seen : List Float) (own : row ≡ get_or (rows_of rows columns t) g []) (seen-is : seen ≡ get_or (rows_of rows columns t) observed []) where
+      pub surveyed-row : Tallying row seen counts
+      surveyed-row = record {
+        even = row-length t rows columns k observed w.ready w.seen seen seen-is ∙ sym (row-length t rows columns k g w.ready h row own);
+        room = omega (arith, row-length t rows columns k g w.ready h row own, w.room, w.ready.cols-most);
+        small = count_small;
       }
+
+      module _ (counts' : List ℕ) (as_long : length counts' ≡ length counts)
+          (tallied : ((j : ℕ) → j < length row → get_or counts' j 0 ≡ get_or counts j 0 + bit (at_most (get_or seen j nan) (get_or row j nan)))
+          × ((j : ℕ) → length row ≤ j → get_or counts' j 0 ≡ get_or counts j 0)) where
+        observed-is : (j : ℕ) → j < columns → get_or seen j nan ≡ get_or t (observed * columns + j) nan
+        observed-is j l = ap (λ (r : List Float). get_or r j nan) seen-is ∙ row-entry t rows columns observed j nan w.seen l
+
+        pub surveyed-turn : Surveyed t rows columns observed k counts' (g + 1)
+        surveyed-turn = record {
+          ready = w.ready;
+          seen = w.seen;
+          place = omega arith;
+          room = as_long ∙ w.room;
+          counted = λ j l. tallied.0 j (omega (arith, row-length t rows columns k g w.ready h row own))
+              ∙ ap₂ (λ (a b : ℕ). a + b) (w.counted j l) (ap₂ (λ (x y : Float). bit (at_most x y)) (observed-is j l) (ap (λ (r : List Float). get_or r j nan) own))
+              ∙ sym (reached-more j);
+          others = λ j l. tallied.1 j (omega (arith, row-length t rows columns k g w.ready h row own)) ∙ w.others j l;
+        }

@@ -1,22 +1,18 @@
 -- Definitions that only the inner functions cite. Definitions only; a reader of the promises needs none of them.
 --   members_from i K     the numbers of the columns of K, the first one being column i
 --   found_of k e X K     c(K), and the lowest row whose k-max over K equals it
---   four, blank          the four largest values, in falling order; before any value is seen
---   pushed t x           once x is seen too: each place keeps the larger of its value and what the place before it gives up
---   top_from t xs        once all of xs are seen
---   nth t k              the k-th of four, k from 1
+--   pushed ts x          the largest values, in falling order, once x is seen too: each place keeps the larger of its value and what the place before it gives up
+--   top_from ts xs       once all of xs are seen
 --   Marked X k v kept marks     the numbers of those rows of X that have at least k columns above v, and their marks by it
 --   tops_above X k K v   the k-max values over K of the rows that have at least k columns of K above v
 --   Tallying row observed counts     two rows of a table, and a count for each column
-use Rattle.std.specs.Prelude.{ℕ, suc, ◌≤◌, ◌≡◌, true, cond, List, [], ◌∷◌, map, T, eqb, leb, length, get_or, Float}
-use Rattle.std.specs.Float.{inf}
+use Rattle.std.specs.Prelude.{ℕ, suc, ◌≤◌, ◌≡◌, true, cond, List, [], ◌∷◌, map, T, leb, length, get_or, Float}
 use Rattle.order.specs.Order.{low, smaller, larger, lesser}
 use Rattle.order.specs.Lists.{tabulate}
 use Rattle.columns.specs.Columns.{Columns, size, ◌∩◌}
 use Rattle.method.specs.Method.{k_max, critical_value}
 use Rattle.method.specs.Bars.{bar_row}
 use Rattle.masks.specs.Marks.{passes, those, rows_kept, marks_at}
-use Rattle.critical.specs.declared.kmax.Top.{Top}
 use Rattle.critical.specs.declared.quantile.Found.{Found}
 
 unfoldable pub members_from : ℕ → Columns → List ℕ
@@ -27,28 +23,16 @@ unfoldable pub found_of : ℕ → ℕ → List (List Float) → Columns → Foun
 unfolding critical_value bar_row
 found_of k e X K = let c = critical_value k e X K in record { value = c; row = bar_row k X K c }
 
--- ---- the four largest values
+-- ---- the largest values
 
-abbrev pub four : Float → Float → Float → Float → Top
-four a b c d = record { a = a; b = b; c = c; d = d }
+unfoldable pub pushed : List Float → Float → List Float
+pushed [] x = []
+pushed (t ∷ ts) x = larger t x ∷ pushed ts (lesser t x)
 
-abbrev pub blank : Top
-blank = four (inf true) (inf true) (inf true) (inf true)
-
-unfoldable pub pushed : Top → Float → Top
-pushed t x =
-    let p = lesser t.a x in
-    let q = lesser t.b p in
-    let r = lesser t.c q in
-    four (larger t.a x) (larger t.b p) (larger t.c q) (larger t.d r)
-
-unfoldable pub top_from : Top → List Float → Top
+unfoldable pub top_from : List Float → List Float → List Float
 unfolding pushed
-top_from t [] = t
-top_from t (x ∷ xs) = top_from (pushed t x) xs
-
-unfoldable pub nth : Top → ℕ → Float
-nth t k = cond (eqb k 1) t.a (cond (eqb k 2) t.b (cond (eqb k 3) t.c t.d))
+top_from ts [] = ts
+top_from ts (x ∷ xs) = top_from (pushed ts x) xs
 
 -- ---- the rows above a value
 

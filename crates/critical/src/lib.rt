@@ -1,9 +1,10 @@
 // Critical values of a table that has passed its checks: a row's k-max, c(K) with the row that has it, and counts of rows.
 // INNER: these functions ask for what they need (`requires`): a checked table, or sizes within the limits. Their callers are `putback` and `engine`.
+// `fill`, `fill_above` and `fill_sample` stay three: each is a loop of a line or two, and one over any rows would promise less of each.
 #![tactic(auto)]
 
 mod bars; // the lowest row that has a critical value
-mod counts; // formula 16: how many rows reach each observed value
+mod counts; // how many rows reach each observed value
 mod kmax; // a row's k-max
 mod quantile; // c(K): a quantile of the k-max values, with the work buffer
 mod raise; // c(K) where it is known to be above a value
@@ -14,12 +15,3 @@ pub use counts::at_least;
 pub use quantile::{Found, critical_value};
 pub use raise::raised;
 pub use sample::likely_below;
-
-// What stays the same in all critical values of a run: M and the columns, k, and e.
-#[derive(Clone, Copy)]
-pub struct Figures {
-    pub rows: usize,
-    pub columns: usize,
-    pub k: usize,
-    pub e: usize,
-}

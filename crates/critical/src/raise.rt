@@ -3,56 +3,50 @@ ghost use Rattle.std.specs.Prelude.{◌≡◌, map, ◌<◌, ◌≤◌, ◌^◌,
 ghost use Rattle.order.specs.Lists.{rows_of};
 ghost use Rattle.columns.specs.Columns.{size, columns_of};
 ghost use Rattle.method.specs.Method.{k_max, critical_value};
-ghost use Rattle.masks.specs.Internal.{CheckedTable};
 ghost use Rattle.masks.specs.Marks.{holding};
 ghost use Rattle.critical.specs.Internal.{members_from, Marked, tops_above};
 
-use super::{Figures, kmax};
+use super::kmax;
+use masks::Table;
 
 // The k-max over the columns of `set`, which are listed, of each row whose mark holds k of them, into the first places of the work buffer: answers how many.
 fn fill_above(
-    table: &[f64],
+    table: Table<'_>,
     work: &mut [f64],
     kept: &[u16],
     marks: &[u32],
-    f: Figures,
     set: u32,
     list: &[usize],
     v: f64,
 ) -> usize
-    requires { CheckedTable table.now f.rows f.columns f.k × (f.rows ≤ length work.old) × (f.k ≤ size (columns_of f.columns set)) × (set < 2 ^ f.columns) × (list.now ≡ members_from 0 (columns_of f.columns set)) × Marked (rows_of f.rows f.columns table.now) f.k v kept.now marks.now }
-    ensures { (result ≤ f.rows) × (take result work.new ≡ tops_above (rows_of f.rows f.columns table.now) f.k (columns_of f.columns set) v) × (drop f.rows work.new ≡ drop f.rows work.old) }
+    requires { (table.rows ≤ length work.old) × (table.k ≤ size (columns_of table.columns set)) × (set < 2 ^ table.columns) × (list.now ≡ members_from 0 (columns_of table.columns set)) × Marked (rows_of table.rows table.columns table.values.now) table.k v kept.now marks.now }
+    ensures { (result ≤ table.entry.rows) × (take result work.new ≡ tops_above (rows_of table.entry.rows table.entry.columns table.entry.values.now) table.entry.k (columns_of table.entry.columns set) v) × (drop table.entry.rows work.new ≡ drop table.entry.rows work.old) }
 {
     let mut n: usize = 0;
-    let mut i: usize = 0;
-    while i < marks.len() {
-        if masks::holds(marks[i], set, f.k) {
-            let a = (kept[i] as usize) * f.columns;
-            let e = a + f.columns;
-            work[n] = kmax::kmax(&table[a..e], list, f.k);
+    for (i, &mark) in marks.iter().enumerate() {
+        if masks::holds(mark, set, table.k) {
+            work[n] = kmax::kmax(table.row(kept[i] as usize), list, table.k);
             n += 1;
         }
-        i += 1;
     }
     n
 }
 
 // The critical value of the columns of `set`, which is above v; of the work buffer only the first M places change.
 pub fn raised(
-    table: &[f64],
+    table: Table<'_>,
     work: &mut [f64],
     kept: &[u16],
     marks: &[u32],
-    f: Figures,
+    e: usize,
     set: u32,
     v: f64,
 ) -> f64
-    requires { CheckedTable table.now f.rows f.columns f.k × (f.rows ≤ length work.old) × (f.k ≤ size (columns_of f.columns set)) × (set < 2 ^ f.columns) × Marked (rows_of f.rows f.columns table.now) f.k v kept.now marks.now × (f.e < holding f.k set marks.now) }
-    ensures { (result ≡ critical_value f.k f.e (rows_of f.rows f.columns table.now) (columns_of f.columns set)) × (drop f.rows work.new ≡ drop f.rows work.old) }
+    requires { (table.rows ≤ length work.old) × (table.k ≤ size (columns_of table.columns set)) × (set < 2 ^ table.columns) × Marked (rows_of table.rows table.columns table.values.now) table.k v kept.now marks.now × (e < holding table.k set marks.now) }
+    ensures { (result ≡ critical_value table.entry.k e (rows_of table.entry.rows table.entry.columns table.entry.values.now) (columns_of table.entry.columns set)) × (drop table.entry.rows work.new ≡ drop table.entry.rows work.old) }
 {
-    let m = kmax::members(f.columns, set);
-    let c = m.count;
-    let columns = m.columns;
-    let n = fill_above(table, work, kept, marks, f, set, &columns[..c], v);
-    select::mth_smallest(&work[..n], n - f.e)
+    let list = kmax::members(table.columns, set);
+    let size = masks::size_of(table.columns, set);
+    let n = fill_above(table, work, kept, marks, set, &list[..size], v);
+    select::mth_smallest(&work[..n], n - e)
 }

@@ -1,6 +1,6 @@
 -- The full run that a trace makes, column by column.
 --   observed_count    a column's count, by the place of its observed value in the table
---   partial_run       with the verdicts and counts of the first j columns
+--   verdicts_to, counts_to      the verdicts and counts of the first j columns, in 32 places
 --   trace-verdict     a verdict read off the trace of steps is the verdict of those steps
 --   counted-can       the first state can be stepped where k or more columns are live
 --   full_is           what the steps make is the full run
@@ -16,18 +16,17 @@ use lib.Pow.{pow_pos}
 use lib.Ieee.{Float, nan}
 use Rattle.order.specs.Order.{plus_zero}
 use Rattle.order.specs.Lists.{tabulate, rows_of, padded}
-use Rattle.order.proofs.Lists.{map_more, tabulate-length, tabulate-get_d, tabulate-same, tabulate-more, padded-length, set-padded, row-entry}
+use Rattle.order.proofs.Lists.{tabulate-length, tabulate-get_d, tabulate-same, tabulate-more, padded-length, set-padded, row-entry}
 use Rattle.refusals.specs.Buffers.{cleared}
 use Rattle.columns.specs.Columns.{size, in_set, columns_of}
 use Rattle.method.specs.Method.{at_least}
 use Rattle.runs.specs.Stepdown.{first_state, steps_of, verdict_from, verdict_of, verdict_at, count_at, full_run}
-use Rattle.runs.specs.FullRuns.{no_record, decision, refused_run, accepted_run}
+use Rattle.runs.specs.FullRuns.{no_record, accepted_run}
 use Rattle.runs.specs.declared.State.{State}
 use Rattle.runs.specs.declared.Record.{Record}
 use Rattle.runs.specs.declared.Step.{Step}
 use Rattle.runs.specs.declared.Verdict.{Verdict}
 use Rattle.runs.specs.declared.Verdict.TheVariants.{Rejected, Kept, Aside}
-use Rattle.runs.specs.declared.Decision.{Decision}
 use Rattle.runs.specs.declared.FullRun.{FullRun}
 use Rattle.runs.proofs.Start.{first-empty, first-left, first-open}
 use Rattle.runs.proofs.Termination.{steps-few}
@@ -38,50 +37,36 @@ use Rattle.engine.specs.declared.tracing.Trace.{Trace}
 abbrev pub observed_count : List Float → ℕ → ℕ → ℕ → ℕ → ℕ
 observed_count table rows columns observed i = at_least (rows_of rows columns table) (get_or table (observed * columns + i) nan) i
 
-module _ (t : Trace) (table : List Float) (rows columns e observed live : ℕ) where
+-- the verdicts and counts of the first j columns, in their places
+abbrev pub verdicts_to : Trace → ℕ → ℕ → List Verdict
+verdicts_to t live j = padded 32 (Kept plus_zero) (tabulate j (λ i. told_in live t i))
+
+abbrev pub counts_to : List Float → ℕ → ℕ → ℕ → ℕ → ℕ → List ℕ
+counts_to table rows columns observed live j = padded 32 0 (tabulate j (λ i. cond (in_set live i) (observed_count table rows columns observed i) 0))
+
+tabulate-turn : {A : Type 0} (d : A) (f : ℕ → A) (j : ℕ) (v : A) → j < 32 → v ≡ f j → set (padded 32 d (tabulate j f)) j v ≡ padded 32 d (tabulate (j + 1) f)
+tabulate-turn d f j v h q =
+    set-padded 32 d (tabulate j f) j v (tabulate-length j f) h
+    ∙ ap (padded 32 d) (ap (λ w. tabulate j f ++ (w ∷ [])) q ∙ sym (tabulate-more j f))
+
+pub verdicts-turn : (t : Trace) (live j : ℕ) (v : Verdict) → j < 32 → v ≡ told_in live t j → set (verdicts_to t live j) j v ≡ verdicts_to t live (j + 1)
+verdicts-turn t live j v h q = tabulate-turn (Kept plus_zero) (λ i. told_in live t i) j v h q
+
+module _ (table : List Float) (rows columns observed live j : ℕ) (cs : List ℕ) (n : ℕ) (h : j < 32) (l : j < columns) (r : cs ≡ padded 32 0 (tabulate columns (observed_count table rows columns observed))) where
   abbrev count : ℕ → ℕ
   count i = observed_count table rows columns observed i
 
-  verdicts : ℕ → List Decision
-  verdicts j = map decision (tabulate j (λ i. told_in live t i))
+  counted-here : get_or cs j 0 ≡ count j
+  counted-here = ap (λ (ns : List ℕ). get_or ns j 0) r ∙ get_or-append (tabulate columns count) (replicate (32 - length (tabulate columns count)) 0) 0 j (omega (arith, tabulate-length columns count)) ∙ tabulate-get_d columns count j 0 l
 
-  counts : ℕ → List ℕ
-  counts j = tabulate j (λ i. cond (in_set live i) (count i) 0)
+  pub counts-turn : n ≡ cond (in_set live j) (get_or cs j 0) 0 → set (counts_to table rows columns observed live j) j n ≡ counts_to table rows columns observed live (j + 1)
+  counts-turn q = tabulate-turn 0 (λ i. cond (in_set live i) (count i) 0) j n h (q ∙ ap (λ (m : ℕ). cond (in_set live j) m 0) counted-here)
 
-  pub partial_run : ℕ → FullRun
-  partial_run j = record { refusal = 0; rows = rows; e = e; steps = t.steps; records = t.records; decisions = padded 32 (decision (Kept plus_zero)) (verdicts j); counts = padded 32 0 (counts j) }
-
-  pub partial-start : (r : FullRun) → r ≡ refused_run 0
-      → record { refusal = r.refusal; rows = rows; e = e; steps = t.steps; records = t.records; decisions = r.decisions; counts = r.counts } ≡ partial_run 0
-  unfolding partial_run verdicts counts tabulate
-  partial-start r q = ap (λ (x : FullRun). record { refusal = x.refusal; rows = rows; e = e; steps = t.steps; records = t.records; decisions = x.decisions; counts = x.counts }) q
-
-  module _ (j : ℕ) (f : FullRun) (v : Verdict) (cs : List ℕ) (n : ℕ) (h : j < 32) (l : j < columns) (w : f ≡ partial_run j) (p : v ≡ told_in live t j) (r : cs ≡ padded 32 0 (tabulate columns (observed_count table rows columns observed))) where
-    verdicts-turn : set (padded 32 (decision (Kept plus_zero)) (verdicts j)) j (decision v) ≡ padded 32 (decision (Kept plus_zero)) (verdicts (j + 1))
-    unfolding verdicts
-    verdicts-turn =
-        set-padded 32 (decision (Kept plus_zero)) (verdicts j) j (decision v) (length-map (tabulate j (λ i. told_in live t i)) decision ∙ tabulate-length j (λ i. told_in live t i)) h
-        ∙ ap (padded 32 (decision (Kept plus_zero))) (ap (λ (w : Verdict). map decision (tabulate j (λ i. told_in live t i)) ++ (decision w ∷ [])) p ∙ sym (map_more decision (tabulate j (λ i. told_in live t i)) (told_in live t j)) ∙ ap (map decision) (sym (tabulate-more j (λ i. told_in live t i))))
-
-    counted-here : get_or cs j 0 ≡ count j
-    counted-here = ap (λ (ns : List ℕ). get_or ns j 0) r ∙ get_or-append (tabulate columns count) (replicate (32 - length (tabulate columns count)) 0) 0 j (omega (arith, tabulate-length columns count)) ∙ tabulate-get_d columns count j 0 l
-
-    counts-turn : n ≡ cond (in_set live j) (get_or cs j 0) 0 → set (padded 32 0 (counts j)) j n ≡ padded 32 0 (counts (j + 1))
-    unfolding counts
-    counts-turn q =
-        set-padded 32 0 (counts j) j n (tabulate-length j (λ i. cond (in_set live i) (count i) 0)) h
-        ∙ ap (padded 32 0) (ap (λ (m : ℕ). counts j ++ (m ∷ [])) (q ∙ ap (λ (m : ℕ). cond (in_set live j) m 0) counted-here) ∙ sym (tabulate-more j (λ i. cond (in_set live i) (count i) 0)))
-
-    pub partial-turn : n ≡ cond (in_set live j) (get_or cs j 0) 0
-        → record { refusal = f.refusal; rows = f.rows; e = f.e; steps = f.steps; records = f.records; decisions = set f.decisions j (record { verdict = v }); counts = set f.counts j n } ≡ partial_run (j + 1)
-    unfolding partial_run
-    partial-turn q =
-        ap (λ (x : FullRun). record { refusal = x.refusal; rows = x.rows; e = x.e; steps = x.steps; records = x.records; decisions = set x.decisions j (record { verdict = v }); counts = set x.counts j n }) w
-        ∙ ap₂ (λ (ds : List Decision) (ns : List ℕ). record { refusal = 0; rows = rows; e = e; steps = t.steps; records = t.records; decisions = ds; counts = ns }) verdicts-turn (counts-turn q)
-
-  pub partial-end : (j : ℕ) (f : FullRun) → j ≤ columns → columns ≤ j → f ≡ partial_run j → f ≡ finished_run t table rows columns e observed live
-  unfolding partial_run verdicts counts finished_run
-  partial-end j f a b w = let q : j ≡ columns = omega arith in w ∙ ap partial_run q
+pub finished-by : (t : Trace) (table : List Float) (rows columns e observed live j : ℕ) (vs : List Verdict) (ns : List ℕ) → j ≡ columns → vs ≡ verdicts_to t live j → ns ≡ counts_to table rows columns observed live j
+    → record { rows = rows; e = e; steps = t.steps; records = t.records; verdicts = vs; counts = ns } ≡ finished_run t table rows columns e observed live
+unfolding finished_run
+finished-by t table rows columns e observed live j vs ns q p r =
+    ap₂ (λ (ws : List Verdict) (ms : List ℕ). record { rows = rows; e = e; steps = t.steps; records = t.records; verdicts = ws; counts = ms }) (p ∙ ap (verdicts_to t live) q) (r ∙ ap (counts_to table rows columns observed live) q)
 
 -- ---- the trace of steps
 
@@ -128,12 +113,11 @@ module _ (table : List Float) (rows columns k e observed live : ℕ) where
   finished-is : observed < rows → finished_run (trace_of (steps_of (rows_of rows columns table) start)) table rows columns e observed live ≡ accepted_run (full_run (rows_of rows columns table) start)
   unfolding finished_run accepted_run full_run trace_of
   finished-is h = λ i. record {
-    refusal = 0;
     rows = rows;
     e = e;
     steps = sym (length-map ss (λ s. s.logged)) i;
     records = padded 32 no_record (map (λ s. s.logged) ss);
-    decisions = padded 32 (decision (Kept plus_zero)) (map decision (vs i));
+    verdicts = padded 32 (Kept plus_zero) (vs i);
     counts = padded 32 0 (cs i);
   }
     where

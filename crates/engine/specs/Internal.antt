@@ -15,7 +15,7 @@ use Rattle.order.specs.Lists.{tabulate, rows_of, padded}
 use Rattle.columns.specs.Columns.{size, ◌∖◌, columns_of, in_set}
 use Rattle.method.specs.Method.{at_least}
 use Rattle.runs.specs.Stepdown.{live_set, rejected_set, critical_of, step_sets}
-use Rattle.runs.specs.FullRuns.{no_record, decision}
+use Rattle.runs.specs.FullRuns.{no_record}
 use Rattle.runs.specs.declared.State.{State}
 use Rattle.runs.specs.declared.Step.{Step}
 use Rattle.runs.specs.declared.Record.{Record}
@@ -75,11 +75,10 @@ unfoldable pub finished_run : Trace → List Float → ℕ → ℕ → ℕ → �
 unfolding verdict_in tabulate at_least rows_of
 finished_run t table rows columns e observed live =
     record {
-      refusal = 0;
       rows = rows;
       e = e;
       steps = t.steps;
       records = t.records;
-      decisions = padded 32 (decision (Kept plus_zero)) (map decision (tabulate columns (λ j. told_in live t j)));
+      verdicts = padded 32 (Kept plus_zero) (tabulate columns (λ j. told_in live t j));
       counts = padded 32 0 (tabulate columns (λ j. cond (in_set live j) (at_least (rows_of rows columns table) (get_or table (observed * columns + j) nan) j) 0));
     }

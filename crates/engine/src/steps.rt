@@ -5,8 +5,8 @@ ghost use Rattle.refusals.specs.Buffers.{cleared};
 ghost use Rattle.engine.specs.Internal.{CanStep, bar_in, stops};
 ghost use Rattle.runs.specs.Stepdown as stepdown;
 
-use critical::Figures;
 use limits::TABLE_ROWS_MOST;
+use masks::Table;
 use putback::Bar;
 use runs::{Record, State, Step};
 
@@ -15,10 +15,19 @@ pub fn clear(work: &mut [f64], m: usize)
     requires { m ≤ length work.old }
     ensures { work.new ≡ cleared m work.old }
 {
-    let mut i: usize = 0;
-    while i < m {
-        work[i] = 0.0;
-        i += 1;
+    work[..m].fill(0.0);
+}
+
+// A state's table.
+fn table_of(s: State, values: &[f64]) -> Table<'_>
+    requires { CanStep values.now s }
+    ensures { (result.values.now ≡ values.now) × (result.rows ≡ s.rows) × (result.columns ≡ s.columns) × (result.k ≡ s.k) }
+{
+    Table {
+        values,
+        rows: s.rows,
+        columns: s.columns,
+        k: s.k,
     }
 }
 
@@ -29,21 +38,16 @@ fn bar_of(s: State, table: &[f64], work: &mut [f64]) -> Bar
 {
     let mut kept = [0u16; TABLE_ROWS_MOST];
     let mut marks = [0u32; TABLE_ROWS_MOST];
-    let f = Figures {
-        rows: s.rows,
-        columns: s.columns,
-        k: s.k,
-        e: s.e,
-    };
+    let table = table_of(s, table);
     if s.steps == 0 {
-        return putback::critical_value(table, work, &mut kept, &mut marks, f, s.live);
+        return putback::critical_value(table, work, &mut kept, &mut marks, s.e, s.live);
     }
     putback::put_back(
         table,
         work,
         &mut kept,
         &mut marks,
-        f,
+        s.e,
         s.live - s.rejected,
         s.rejected,
     )
@@ -54,9 +58,8 @@ fn record_of(s: State, table: &[f64], bar: Bar) -> Record
     requires { CanStep table.now s × (bar ≡ bar_in (rows_of s.rows s.columns table.now) s) }
     ensures { result ≡ stepdown.record_of (rows_of s.rows s.columns table.now) s }
 {
-    let from = bar.row * s.columns;
-    let to = from + s.columns;
-    let column = masks::lowest_equal(&table[from..to], bar.set, bar.value);
+    let row = table_of(s, table).row(bar.row);
+    let column = masks::lowest_equal(row, bar.set, bar.value);
     Record {
         step: s.steps + 1,
         critical: bar.value,
@@ -69,13 +72,7 @@ fn record_of(s: State, table: &[f64], bar: Bar) -> Record
 fn ends(columns: usize, k: usize, live: u32, new: u32, rejected: u32) -> bool
     ensures { result ≡ stops columns k live new rejected }
 {
-    if new == 0 {
-        return true;
-    }
-    if masks::size_of(columns, rejected) < k {
-        return true;
-    }
-    live == rejected
+    new == 0 || masks::size_of(columns, rejected) < k || live == rejected
 }
 
 // The state after the next step, and the record.
@@ -84,24 +81,18 @@ pub fn step(s: State, table: &[f64], work: &mut [f64]) -> Step
     ensures { (result ≡ stepdown.step (rows_of s.rows s.columns table.now) s) × (drop s.rows work.new ≡ drop s.rows work.old) }
 {
     let bar = bar_of(s, table, work);
-    let from = s.observed * s.columns;
-    let to = from + s.columns;
+    let row = table_of(s, table).row(s.observed);
     let remaining = s.live - s.rejected;
-    let new = masks::above(&table[from..to], remaining, bar.value);
+    let new = masks::above(row, remaining, bar.value);
     let rejected = s.rejected + new;
     let ended = ends(s.columns, s.k, s.live, new, rejected);
     let logged = record_of(s, table, bar);
     Step {
         state: State {
-            rows: s.rows,
-            columns: s.columns,
-            k: s.k,
-            e: s.e,
-            observed: s.observed,
-            live: s.live,
             rejected,
             steps: s.steps + 1,
             ended,
+            ..s
         },
         logged,
     }

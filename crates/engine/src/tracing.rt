@@ -9,9 +9,10 @@ ghost use Rattle.masks.specs.Internal.{CheckedTable};
 ghost use Rattle.engine.specs.Internal.{CanStep, Traced, trace_of, noted_at, verdict_in, told_in, finished_run};
 
 use super::steps;
-use runs::{Decision, FullRun, Record, State, Step, Verdict};
+use masks::Table;
+use runs::{FullRun, Record, State, Step, Verdict};
 
-// The records of the steps taken and the rejected sets after them.
+// The records of the steps taken and the rejected sets after them: two arrays, since a full run takes that of the records over as it is.
 #[derive(Clone, Copy)]
 pub struct Trace {
     pub steps: usize,
@@ -24,10 +25,8 @@ fn noted(t: Trace, i: usize, s: Step) -> Trace
     ensures { result ≡ noted_at t i s }
 {
     let mut u = t;
-    let state = s.state;
-    let logged = s.logged;
-    u.records[i] = logged;
-    u.sets[i] = state.rejected;
+    u.records[i] = s.logged;
+    u.sets[i] = s.state.rejected;
     u.steps = i + 1;
     u
 }
@@ -49,15 +48,13 @@ fn all_steps(start: State, table: &[f64], work: &mut [f64]) -> Trace
         sets: [0u32; 32],
     };
     let mut state = start;
-    let mut i: usize = 0;
-    while i < 32 {
+    for i in 0..32 {
         if state.ended {
             return t;
         }
         let s = steps::step(state, table, work);
         t = noted(t, i, s);
         state = s.state;
-        i += 1;
     }
     t
 }
@@ -69,15 +66,13 @@ fn verdict(t: Trace, j: usize) -> Verdict
 {
     let n = t.steps;
     let mut last: f64 = 0.0;
-    let mut i: usize = 0;
-    while i < n {
+    for i in 0..n {
         let logged = t.records[i];
         let set = t.sets[i];
         if (set >> j) % 2 == 1 {
             return Verdict::Rejected(logged.step, logged.critical);
         }
         last = logged.critical;
-        i += 1;
     }
     Verdict::Kept(last)
 }
@@ -118,21 +113,30 @@ fn finish(
     requires { CheckedTable table.now rows columns k × (observed < rows) × Traced t }
     ensures { result ≡ finished_run t table.now rows columns e observed live }
 {
-    let mut f = runs::refused(0);
-    f.rows = rows;
-    f.e = e;
-    f.steps = t.steps;
-    let records = t.records;
-    f.records = records;
-    let counts = critical::at_least(table, rows, columns, k, observed);
-    let mut j: usize = 0;
-    while j < columns {
-        let v = verdict_at(t, live, j);
-        f.decisions[j] = Decision { verdict: v };
-        f.counts[j] = count_at(counts[j], live, j);
-        j += 1;
+    let all = critical::at_least(
+        Table {
+            values: table,
+            rows,
+            columns,
+            k,
+        },
+        observed,
+    );
+    let mut verdicts = [Verdict::Kept(0.0); 32];
+    let mut counts = [0usize; 32];
+    for j in 0..columns {
+        verdicts[j] = verdict_at(t, live, j);
+        counts[j] = count_at(all[j], live, j);
     }
-    f
+    let records = t.records;
+    FullRun {
+        rows,
+        e,
+        steps: t.steps,
+        records,
+        verdicts,
+        counts,
+    }
 }
 
 // The full run over the columns of `live`. Where fewer than k are live no step is taken.

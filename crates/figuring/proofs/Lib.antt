@@ -1,6 +1,5 @@
 pub mod Scan
 pub mod PutBackCounts
-pub mod Stored
 pub mod NeededMarks
 pub mod PassOrder
 pub mod Tally

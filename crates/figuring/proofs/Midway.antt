@@ -1,12 +1,12 @@
 -- The pass while it goes on, with the columns of the mask `passed` behind it: the first s of the order.
 --   order_row, order-listed, order-fits     the order is that of the observed row, there are as many columns as are live, and they are those of the table
---   order-part, few-live, any-k    what making it asks for: the mask fits the row, there are few enough columns, and the table is checked for every k
+--   order-part, few-live           what making it asks for: the mask fits the row, and there are few enough columns
 --   Midway                         what holds before each column
 --   midway_start, midway_end       before the first column, and after the last
 --   midway-counted, midway-tied    one column more, with a count made for it, and with none since its value is no smaller than the last one with a count
 --   midway-raising                 what the count asks for
---   column_fits, column-32, entry-fits, mask-room     the column is one of the table, its entry is there, and its bit fits the mask
-use Prim.Native.Nat.{ℕ, zero, suc, ◌+◌, ◌-◌, ◌*◌, ◌/◌, ◌^◌, ◌≤◌, ◌<◌, max}
+--   column_fits, column-32, mask-room     the column is one of the table, and its bit fits the mask
+use Prim.Native.Nat.{ℕ, zero, suc, ◌+◌, ◌-◌, ◌/◌, ◌^◌, ◌≤◌, ◌<◌, max}
 use native.Mathlib.Omega.{arith}
 use mathlib.Core.Path.{◌≡◌, refl, sym, ap, ap₂, ◌∙◌, subst}
 use mathlib.Core.Bool.{true, false}
@@ -23,14 +23,13 @@ use Rattle.order.proofs.Counts.{all_get_d}
 use Rattle.order.proofs.Booleans.{never, true-T}
 use Rattle.order.proofs.Infinities.{all-below}
 use Rattle.order.proofs.Keys.{key, smaller-key}
-use Rattle.order.proofs.Lists.{part-rows, rows_of-length, row-entry, padded-length}
+use Rattle.order.proofs.Lists.{rows_of-length, padded-length}
 use Rattle.order.proofs.Rows.{Sound, sound_row, sound-length, sound-finite, rows_of-sound}
 use Rattle.columns.specs.Columns.{Columns, size, ◌∖◌, columns_of}
 use Rattle.columns.proofs.Sets.{◌⊆◌, none, more, ⊆-at, ⊆-refl, size-length}
 use Rattle.columns.proofs.Masks.{columns_of-length}
 use Rattle.columns.proofs.Remaining.{left-all}
-use Rattle.masks.specs.Internal.{CheckedTable}
-use Rattle.masks.proofs.Parts.{part_length, part-row}
+use Rattle.masks.proofs.Parts.{row-length}
 use Rattle.adjustment.specs.Passes.{top_column, needed, k_max_from, k_max_pass}
 use Rattle.figuring.specs.Internal.{Passable, Raising, order_from, rows_hit}
 use Rattle.adjustment.proofs.Needed.{needed-falls}
@@ -57,14 +56,11 @@ none_passed zero s = refl
 none_passed (suc n) s = ap (λ (K : Columns). false ∷ K) (none_passed n (s / 2))
 
 module _ {t : List Float} {rows columns k observed live : ℕ} (r : Passable t rows columns k observed live) where
-  pub order-part : live < 2 ^ length (take (observed * columns + columns - observed * columns) (drop (observed * columns) t))
-  order-part = subst (λ (c : ℕ). live < 2 ^ c) (sym (part_length t rows columns k observed r.ready r.seen)) r.live-fits
+  pub order-part : (seen : List Float) → seen ≡ get_or (rows_of rows columns t) observed [] → live < 2 ^ length seen
+  order-part seen e = subst (λ (c : ℕ). live < 2 ^ c) (sym (row-length t rows columns k observed r.ready r.seen seen e)) r.live-fits
 
   pub few-live : (n : ℕ) → n ≡ size (columns_of columns live) → n ≤ 32
   few-live n e = omega (arith, size-length (columns_of columns live), columns_of-length columns live, r.ready.cols-most)
-
-  pub any-k : CheckedTable t rows columns 1
-  any-k = record { rows-most = r.ready.rows-most; cols-most = r.ready.cols-most; full = r.ready.full; finitely = r.ready.finitely; k-some = omega arith; k-most = omega arith }
 
 module _ {t : List Float} {rows columns k observed live : ℕ} (r : Passable t rows columns k observed live) (held : k ≤ size (columns_of columns live)) where
   fresh : (figures : List ℕ) → figures ≡ padded 32 0 (replicate columns rows)
@@ -80,18 +76,18 @@ module _ {t : List Float} {rows columns k observed live : ℕ} (r : Passable t r
   row_at : T (sound_row columns (get_or (rows_of rows columns t) observed []))
   row_at = all_get_d (sound_row columns) (rows_of rows columns t) observed [] (omega (arith, rows_of-length rows columns t, r.seen)) (rows_of-sound rows columns t r.ready.full r.ready.finitely)
 
-  module _ (order : List ℕ) (n : ℕ) (counted : n ≡ size (columns_of columns live))
-      (found : take (size (columns_of (length (take (observed * columns + columns - observed * columns) (drop (observed * columns) t))) live)) order
-      ≡ order_from (size (columns_of (length (take (observed * columns + columns - observed * columns) (drop (observed * columns) t))) live)) (take (observed * columns + columns - observed * columns) (drop (observed * columns) t))
-      (columns_of (length (take (observed * columns + columns - observed * columns) (drop (observed * columns) t))) live)) where
+  module _ (order : List ℕ) (n : ℕ) (counted : n ≡ size (columns_of columns live)) (seen : List Float) (seen-is : seen ≡ get_or (rows_of rows columns t) observed [])
+      (found : take (size (columns_of (length seen) live)) order
+      ≡ order_from (size (columns_of (length seen) live)) seen
+      (columns_of (length seen) live)) where
     pub order_row : take n order ≡ order_from n (get_or (rows_of rows columns t) observed []) (columns_of columns live)
     order_row =
         ap (λ (m : ℕ). take m order) (counted ∙ ap (λ (c : ℕ). size (columns_of c live)) (sym wide)) ∙ found
-        ∙ ap₂ (λ (c : ℕ) (row : List Float). order_from (size (columns_of c live)) row (columns_of c live)) wide (part-row t rows columns k observed r.ready r.seen)
+        ∙ ap₂ (λ (c : ℕ) (row : List Float). order_from (size (columns_of c live)) row (columns_of c live)) wide seen-is
         ∙ ap (λ (m : ℕ). order_from m (get_or (rows_of rows columns t) observed []) (columns_of columns live)) (sym counted)
       where
-        wide : length (take (observed * columns + columns - observed * columns) (drop (observed * columns) t)) ≡ columns
-        wide = part_length t rows columns k observed r.ready r.seen
+        wide : length seen ≡ columns
+        wide = row-length t rows columns k observed r.ready r.seen seen seen-is
 
     pub order-fits : T (all (λ j. ltb j columns) (take n order))
     order-fits = subst (λ (cs : List ℕ). T (all (λ j. ltb j columns) cs)) (sym order_row) (subst (λ (c : ℕ). T (all (λ j. ltb j c) (order_from n row (columns_of columns live)))) wide
@@ -185,13 +181,7 @@ module _ {t : List Float} {rows columns k observed live : ℕ} {order : List ℕ
     pub column-32 : get_or order s 0 < 32
     column-32 = omega (arith, column_fits, m.ready.ready.cols-most)
 
-    pub entry-fits : observed * columns + get_or order s 0 < length t
-    entry-fits = omega (arith, column_fits, part-rows rows columns observed m.ready.seen, m.ready.ready.full)
-
-    module _ (v : Float) (shown : v ≡ get_or t (observed * columns + get_or order s 0) nan) where
-      value : v ≡ get_or (get_or (rows_of rows columns t) observed []) (get_or order s 0) nan
-      value = shown ∙ sym (row-entry t rows columns observed (get_or order s 0) nan m.ready.seen column_fits)
-
+    module _ (v : Float) (value : v ≡ get_or (get_or (rows_of rows columns t) observed []) (get_or order s 0) nan) where
       v-finite : T (finite v)
       v-finite = subst (λ (x : Float). T (finite x)) (sym value) (value-finite m.passing row own some (get_or order s 0) top)
 

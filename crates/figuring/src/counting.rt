@@ -1,20 +1,10 @@
-// The count of rows that a value needs (document 02, §1): the masks of the rows' columns that reach it are made once, and each set of columns is one look at them.
+// The count of rows that a value needs: the masks of the rows' columns that reach it are made once, and each set of columns is one look at them.
 ghost use Rattle.std.specs.Prelude.{◌≡◌, false, map, ◌++◌, ◌<◌, ◌≤◌, ◌-◌, max, length, replicate};
 ghost use Rattle.columns.specs.Columns.{◌∪◌, choose, columns_of};
 ghost use Rattle.masks.specs.Internal.{Walk};
 ghost use Rattle.masks.specs.Marks.{holding_columns};
 ghost use Rattle.adjustment.specs.Passes.{largest_of};
 ghost use Rattle.figuring.specs.Internal.{Countable, needed_in};
-
-// The larger of two counts.
-pub(crate) fn larger(a: usize, b: usize) -> usize
-    ensures { result ≡ max a b }
-{
-    if a < b {
-        return b;
-    }
-    a
-}
 
 // The largest of `best` and the counts of `set` with each choice of `left` columns among those of `rest`, which start at column `from`: one column is
 // chosen and then, with one fewer to choose, later ones. A row that holds k columns in the end holds all but those still to choose now: a choice that
@@ -72,7 +62,7 @@ pub(crate) fn needed(
     ensures { result ≡ max best (needed_in k marks.now (columns_of columns live) (columns_of columns passed)) }
 {
     if masks::size_of(columns, passed) < k {
-        return larger(best, masks::count_holding(marks, live, k));
+        return best.max(masks::count_holding(marks, live, k));
     }
     let left = live - passed;
     let c = masks::count_holding(marks, left, 1);

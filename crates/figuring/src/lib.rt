@@ -1,4 +1,4 @@
-// The adjusted figures of a table over its live columns (document 02, §1): the pass down the observed values, in code.
+// The adjusted figures of a table over its live columns: the pass down the observed values, in code.
 // INNER: asks for a checked table and a set of its columns; called by `tableadjustment` and `trialadjustment`.
 // What the figures are, and that the pass gives them, stands in crate adjustment.
 #![tactic(auto)]

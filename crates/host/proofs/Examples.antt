@@ -1,4 +1,4 @@
--- Examples of document 01, by the calls for C: the trial W as a file, of which 0042 is rejected in step 1 and 7 is kept, and the table P, of which step 1 rejects two.
+-- Examples, by the calls for C: the trial W as a file, of which 0042 is rejected in step 1 and 7 is kept, and the table P, of which step 1 rejects two.
 -- Their adjusted figures are 1 and 3 of 8 rows, and 0, 1 and 2.
 -- Of W with a third offer of zeros that offer's byte is 255, and its figure M; of two offers with k 2, of which one is set aside, the other is kept.
 -- Over balanced tables W has the same verdicts; of samples/saffron.trial, milk 4011 and saffron 0907, the plain run rejects none and the balanced one saffron.

@@ -1,6 +1,6 @@
+pub mod Mapped
 pub mod Lent
 pub mod TableCalls
-pub mod Putting
 pub mod VerdictBytes
 pub mod Tables
 pub mod Files

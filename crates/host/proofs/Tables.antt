@@ -1,29 +1,29 @@
 -- Laws of the call for the verdicts of a table.
---   table_fits               a table's refusal has two digits at most
 --   table-known              an accepted table has at most 32 columns, and its verdicts fit bytes
---   table-short, table-refused, table_done     each answer with its buffers: no byte for each column, another refusal, the verdicts are written
+--   table_short, table-early, table-refused, table_done     each answer with its buffers: no byte for each column, a refusal before that, another refusal, the verdicts are written
 use Prim.Native.Nat.{ℕ, ◌+◌, ◌≤◌, ◌<◌}
-use native.Mathlib.Omega.{arith}
 use mathlib.Core.Path.{◌≡◌, sym, ap, ◌∙◌, subst}
-use mathlib.Core.List.{List, [], ◌++◌}
-use lib.ListN.{length}
+use mathlib.Core.List.{List, map}
+use lib.ListN.{length, take}
 use lib.Dec.{T}
 use lib.Ieee.{Float}
-use Rattle.refusals.specs.Answers.{Checks, first_refusal}
+use Rattle.std.proofs.Common.{Ok, Err}
+use Rattle.std.proofs.lemmas.List.{take-map}
+use Rattle.refusals.specs.Answers.{Checks, number, outcome}
+use Rattle.refusals.specs.declared.refusal.Refusal.{Refusal}
 use Rattle.refusals.specs.Buffers.{written}
-use Rattle.refusals.proofs.Answers.{answer-map, first_short}
-use Rattle.runs.specs.FullRuns.{accepted_run, refused_run}
+use Rattle.runs.specs.FullRuns.{accepted_run}
 use Rattle.runs.specs.Tables.{table_run}
 use Rattle.runs.specs.declared.FullRun.{FullRun}
-use Rattle.stepdown.specs.Refusals.{table_checks, table_refusal, table_run_checks, table_run_refusal}
+use Rattle.stepdown.specs.Refusals.{table_checks, table_run_checks, table_run_refusal}
 use Rattle.stepdown.specs.Answers.{full_answer, full_work}
-use Rattle.stepdown.proofs.Accepted.{accepted, table-accepted}
-use Rattle.verdicts.specs.Verdicts.{rejected_count}
+use Rattle.stepdown.proofs.Accepted.{table-accepted}
+use Rattle.verdicts.specs.Verdicts.{verdict_byte, rejected_count}
 use Rattle.verdicts.specs.Internal.{small_bytes}
 use Rattle.host.specs.Calls.{verdict_bytes, table_verdicts_answer, table_verdicts_work, table_verdicts_buffer}
+use Rattle.host.proofs.Lent.{refused-by, passed, taken}
 use Rattle.host.proofs.VerdictBytes.{table-bytes}
 use Rattle.host.proofs.TableCalls as calls
-use Rattle.refusals.proofs.Answers as answers
 
 module _ (t : List Float) (rows columns k a b observed : ℕ) where
   abbrev own : Checks
@@ -35,29 +35,18 @@ module _ (t : List Float) (rows columns k a b observed : ℕ) where
   abbrev done : FullRun
   done = accepted_run (table_run t rows columns k a b observed)
 
-  some-row : first_refusal own ≡ 0 → 0 < rows
-  unfolding table_refusal
-  some-row z = (accepted t rows columns k a b observed z).shaped.rows-some
+  -- ---- what an accepted full run is
 
-  -- ---- what a full run answers
-
-  module _ (work : ℕ) (f : FullRun) (e : f ≡ full_answer t rows columns k a b observed work) where
-    number_is : f.refusal ≡ first_refusal (of_run work)
-    unfolding full_answer first_refusal accepted_run
-    number_is = ap (λ (x : FullRun). x.refusal) e ∙ answer-map (λ (x : FullRun). x.refusal) (of_run work) done refused_run
-
-    pub table_fits : f.refusal ≤ 99
-    table_fits = omega (arith, number_is, first_short (of_run work))
-
-    taken : f.refusal ≡ 0 → f ≡ done
+  module _ (work : ℕ) (f : FullRun) (e : Ok f ≡ full_answer t rows columns k a b observed work) where
+    is_done : f ≡ done
     unfolding full_answer
-    taken z = e ∙ sym (answers.accepted done refused_run (of_run work) f.refusal number_is z)
+    is_done = taken (of_run work) done f e
 
-    pub table-known : f.refusal ≡ 0 → (columns ≤ 32) × T (small_bytes f.decisions)
-    unfolding table_run_refusal
-    table-known z = (
-      (table-accepted t rows columns k a b observed work (sym number_is ∙ z)).shaped.columns-most,
-      subst (λ (x : FullRun). T (small_bytes x.decisions)) (sym (taken z)) (table-bytes t rows columns k a b observed),
+    pub table-known : (columns ≤ 32) × T (small_bytes f.verdicts)
+    unfolding full_answer table_run_refusal
+    table-known = (
+      (table-accepted t rows columns k a b observed work (passed (of_run work) done f e)).shaped.columns-most,
+      subst (λ (x : FullRun). T (small_bytes x.verdicts)) (sym is_done) (table-bytes t rows columns k a b observed),
     )
 
   -- ---- the answers
@@ -70,23 +59,27 @@ module _ (t : List Float) (rows columns k a b observed : ℕ) where
         × (out ≡ table_verdicts_buffer t rows columns k a b observed (length work) buf))
 
     abbrev result : ℕ
-    result = rejected_count columns done.decisions
+    result = rejected_count columns done.verdicts
 
     abbrev bytes : List ℕ
-    bytes = verdict_bytes columns done.decisions
+    bytes = verdict_bytes columns done.verdicts
 
-    pub table-short : length buf < columns → (f : FullRun) → f ≡ full_answer t rows columns k a b observed 0 → (front : List Float) → front ≡ full_work t rows columns k a b observed [] → Done (100 + f.refusal) (front ++ work) buf
-    unfolding full_work table_verdicts_answer table_verdicts_work table_verdicts_buffer
-    table-short h f e front p = calls.table-cramped own rows columns result bytes work buf some-row h f.refusal (number_is 0 f e) front p
+    pub table_short : (x : Unit {0}) → Ok x ≡ outcome (of_run (length work)) (tt {0}) → length buf < columns → Done 112 work buf
+    unfolding table_verdicts_answer table_verdicts_work table_verdicts_buffer
+    table_short x e = calls.table_short own rows columns result bytes work buf (passed (of_run (length work)) (tt {0}) x e)
 
-    module _ (h : columns ≤ length buf) (f : FullRun) (e : f ≡ full_answer t rows columns k a b observed (length work)) (w : List Float) (p : w ≡ full_work t rows columns k a b observed work) where
-      pub table-refused : (f.refusal ≡ 0 → ⊥) → Done (100 + f.refusal) w buf
-      unfolding full_work table_verdicts_answer table_verdicts_work table_verdicts_buffer
-      table-refused = calls.table-refused own rows columns result bytes work buf f.refusal (number_is (length work) f e) w p
+    pub table-early : (r : Refusal) → Err r ≡ outcome (of_run (length work)) (tt {0}) → Done (100 + number r) work buf
+    unfolding table_verdicts_answer table_verdicts_work table_verdicts_buffer
+    table-early r e = calls.table-early own rows columns result bytes work buf r (refused-by (of_run (length work)) (tt {0}) r e)
 
-      pub table_done : f.refusal ≡ 0 → (out : List ℕ) → out ≡ written (verdict_bytes columns f.decisions) buf → (n : ℕ) → n ≡ rejected_count columns f.decisions → Done n w out
-      unfolding full_work table_verdicts_answer table_verdicts_work table_verdicts_buffer
-      table_done z out o n q =
-          let g = taken (length work) f e z in
-          calls.table_done own rows columns result bytes work buf f.refusal (number_is (length work) f e) w p z h
-          n (q ∙ ap (λ (x : FullRun). rejected_count columns x.decisions) g) out (o ∙ ap (λ (x : FullRun). written (verdict_bytes columns x.decisions) buf) g)
+    pub table-refused : (r : Refusal) → Err r ≡ full_answer t rows columns k a b observed (length work) → (w : List Float) → w ≡ full_work t rows columns k a b observed work → Done (100 + number r) w buf
+    unfolding full_answer full_work table_verdicts_answer table_verdicts_work table_verdicts_buffer
+    table-refused r e = calls.table-refused own rows columns result bytes work buf r (refused-by (of_run (length work)) done r e)
+
+    pub table_done : (f : FullRun) → Ok f ≡ full_answer t rows columns k a b observed (length work) → (w : List Float) → w ≡ full_work t rows columns k a b observed work → columns ≤ length buf → (n : ℕ) → n ≡ rejected_count columns f.verdicts → (all : List ℕ) → all ≡ map verdict_byte f.verdicts → (out : List ℕ) → out ≡ written (take columns all) buf → Done n w out
+    unfolding full_answer full_work table_verdicts_answer table_verdicts_work table_verdicts_buffer
+    table_done f e w p h n q all m out o =
+        let g = is_done (length work) f e in
+        calls.table_done own rows columns result bytes work buf (passed (of_run (length work)) done f e) w p h
+        n (q ∙ ap (λ (x : FullRun). rejected_count columns x.verdicts) g)
+        out (o ∙ ap (λ (l : List ℕ). written l buf) (ap (take columns) m ∙ take-map verdict_byte columns f.verdicts ∙ ap (λ (x : FullRun). verdict_bytes columns x.verdicts) g))

@@ -1,4 +1,4 @@
--- The calls for hosts written in C that tell adjusted figures, of a table and of a trial file (document 02, §1). Definitions only.
+-- The calls for hosts written in C that tell adjusted figures, of a table and of a trial file. Definitions only.
 -- A call answers 0, or 100 plus the refusal number.
 --   table_adjusted_checks t .. work places, table_adjusted_refusal  of a table, a work buffer of so many values and a buffer of so many figures: 4, 9, 10, 11, then 12 for either
 --   table_adjusted_answer t .. work places  what the call returns

@@ -1,7 +1,7 @@
--- The calls for hosts written in C: on a trial file (document 01, "Report and C call"), and in the same style on a table. Definitions only.
---   verdict_bytes n ds       the first n verdicts, a byte each (`verdict_byte`): the rejecting step, 0 for kept, 255 for set aside (document 02, §4)
---   verdicts_answer cs n ds  what a call that tells verdicts returns, refused by the conditions cs or with the verdicts ds of n offers: the number of rejected, or 100 plus the refusal number
---   verdicts_buffer cs n ds buf    its buffer afterwards: the verdict of each offer in its first bytes
+-- The calls for hosts written in C: on a trial file, and in the same style on a table. Definitions only.
+--   verdict_bytes n vs       the first n verdicts, a byte each (`verdict_byte`): the rejecting step, 0 for kept, 255 for set aside
+--   verdicts_answer cs n vs  what a call that tells verdicts returns, refused by the conditions cs or with the verdicts vs of n offers: the number of rejected, or 100 plus the refusal number
+--   verdicts_buffer cs n vs buf    its buffer afterwards: the verdict of each offer in its first bytes
 --   file_offers bytes        how many offers the trial of a file has
 --   trial_verdicts_checks bytes places, trial_verdicts_refusal  of a file and a buffer of so many bytes: what the file is turned away for, then 12
 --   trial_verdicts_answer bytes places, trial_verdicts_buffer bytes buf  what the call returns, and its buffer afterwards
@@ -13,21 +13,21 @@ use Rattle.refusals.specs.Answers.{Checks, answer, first_refusal, afterwards}
 use Rattle.refusals.specs.Buffers.{too_short, written, cleared}
 use Rattle.runs.specs.FullRuns.{accepted_run}
 use Rattle.runs.specs.Tables.{table_run}
-use Rattle.runs.specs.declared.Decision.{Decision}
+use Rattle.runs.specs.declared.Verdict.{Verdict}
 use Rattle.stepdown.specs.Refusals.{table_checks, table_run_checks}
 use Rattle.verdicts.specs.Verdicts.{verdict_byte, rejected_count}
 use Rattle.words.specs.Words.{words_of}
 use Rattle.trialfile.specs.Files.{trial_of, file_checks}
-use Rattle.trialrun.specs.FileRuns.{file_run}
+use Rattle.trialrun.specs.TrialRuns.{trial_run}
 
-abbrev pub verdict_bytes : ℕ → List Decision → List ℕ
-verdict_bytes n ds = map (λ d. verdict_byte d.verdict) (take n ds)
+abbrev pub verdict_bytes : ℕ → List Verdict → List ℕ
+verdict_bytes n vs = map verdict_byte (take n vs)
 
-abbrev pub verdicts_answer : Checks → ℕ → List Decision → ℕ
-verdicts_answer cs n ds = answer cs (rejected_count n ds) (λ m. 100 + m)
+abbrev pub verdicts_answer : Checks → ℕ → List Verdict → ℕ
+verdicts_answer cs n vs = answer cs (rejected_count n vs) (λ m. 100 + m)
 
-abbrev pub verdicts_buffer : Checks → ℕ → List Decision → List ℕ → List ℕ
-verdicts_buffer cs n ds buf = afterwards cs (written (verdict_bytes n ds) buf) buf
+abbrev pub verdicts_buffer : Checks → ℕ → List Verdict → List ℕ → List ℕ
+verdicts_buffer cs n vs buf = afterwards cs (written (verdict_bytes n vs) buf) buf
 
 -- ---- a file
 
@@ -42,12 +42,12 @@ unfolding first_refusal file_checks
 trial_verdicts_refusal bytes places = first_refusal (trial_verdicts_checks bytes places)
 
 unfoldable pub trial_verdicts_answer : List ℕ → ℕ → ℕ
-unfolding answer file_checks rejected_count file_run
-trial_verdicts_answer bytes places = verdicts_answer (trial_verdicts_checks bytes places) (file_offers bytes) (file_run bytes).run.decisions
+unfolding answer file_checks rejected_count accepted_run trial_run trial_of words_of
+trial_verdicts_answer bytes places = verdicts_answer (trial_verdicts_checks bytes places) (file_offers bytes) (accepted_run (trial_run (trial_of (words_of bytes)))).verdicts
 
 unfoldable pub trial_verdicts_buffer : List ℕ → List ℕ → List ℕ
-unfolding answer file_checks file_run
-trial_verdicts_buffer bytes buf = verdicts_buffer (trial_verdicts_checks bytes (length buf)) (file_offers bytes) (file_run bytes).run.decisions buf
+unfolding answer file_checks accepted_run trial_run trial_of words_of
+trial_verdicts_buffer bytes buf = verdicts_buffer (trial_verdicts_checks bytes (length buf)) (file_offers bytes) (accepted_run (trial_run (trial_of (words_of bytes)))).verdicts buf
 
 -- ---- a table
 
@@ -61,7 +61,7 @@ table_verdicts_refusal t rows columns k a b observed work places = first_refusal
 unfoldable pub table_verdicts_answer : List Float → ℕ → ℕ → ℕ → ℕ → ℕ → ℕ → ℕ → ℕ → ℕ
 unfolding answer table_checks rejected_count accepted_run table_run
 table_verdicts_answer t rows columns k a b observed work places =
-    verdicts_answer (table_verdicts_checks t rows columns k a b observed work places) columns (accepted_run (table_run t rows columns k a b observed)).decisions
+    verdicts_answer (table_verdicts_checks t rows columns k a b observed work places) columns (accepted_run (table_run t rows columns k a b observed)).verdicts
 
 unfoldable pub table_verdicts_work : List Float → ℕ → ℕ → ℕ → ℕ → ℕ → ℕ → List Float → ℕ → List Float
 unfolding answer table_checks
@@ -70,4 +70,4 @@ table_verdicts_work t rows columns k a b observed work places = afterwards (tabl
 unfoldable pub table_verdicts_buffer : List Float → ℕ → ℕ → ℕ → ℕ → ℕ → ℕ → ℕ → List ℕ → List ℕ
 unfolding answer table_checks accepted_run table_run
 table_verdicts_buffer t rows columns k a b observed work buf =
-    verdicts_buffer (table_verdicts_checks t rows columns k a b observed work (length buf)) columns (accepted_run (table_run t rows columns k a b observed)).decisions buf
+    verdicts_buffer (table_verdicts_checks t rows columns k a b observed work (length buf)) columns (accepted_run (table_run t rows columns k a b observed)).verdicts buf

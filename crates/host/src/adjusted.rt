@@ -1,18 +1,25 @@
 // The calls that tell adjusted figures.
-ghost use Rattle.std.specs.Prelude.{◌≡◌, ℕ, ◌≤◌, ◌<◌, length, get_or, take};
-ghost use Rattle.refusals.specs.Buffers.{written};
+ghost use Rattle.std.specs.Prelude.{◌≡◌, ℕ, ◌≤◌, length, get_or};
 ghost use Rattle.host.specs.AdjustedCalls.{table_adjusted_answer, table_adjusted_work, table_adjusted_buffer, trial_adjusted_answer, trial_adjusted_buffer, trial_adjusted_rows};
 
-// The first n figures into the first places of a buffer.
-fn put_figures(all: [usize; 32], n: usize, out: &mut [u32])
-    requires { (n ≤ 32) × (n ≤ length out.old) × ((j : ℕ) → j < n → get_or all j 0 ≤ 4096) }
-    ensures { out.new ≡ written (take n all) out.old }
+use super::put;
+use refusals::Refusal;
+use trialadjustment::FileFigures;
+
+// A figure as a place of a buffer holds it.
+fn narrow(figure: usize) -> u32
+    requires { figure ≤ 4096 }
+    ensures { result ≡ figure }
 {
-    let mut i: usize = 0;
-    while i < n {
-        out[i] = all[i] as u32;
-        i += 1;
-    }
+    figure as u32
+}
+
+// All figures so.
+fn all_narrow(figures: [usize; 32]) -> [u32; 32]
+    requires { (j : ℕ) → get_or figures j 0 ≤ 4096 }
+    ensures { result ≡ figures }
+{
+    figures.map(narrow)
 }
 
 // The adjusted figures of a table. The result is 0, or 100 plus the refusal number.
@@ -34,24 +41,19 @@ pub extern "C" fn becardlarder_table_adjusted(
 {
     if figures.len() < columns {
         // The table's own refusals come first. With no work place the call below answers those or 12, and clears nothing.
-        let told = tableadjustment::adjusted_figures(
-            table,
-            &mut work[..0],
-            rows,
-            columns,
-            k,
-            observed,
-        );
-        return 100 + told.refusal;
+        let none = &mut work[..0];
+        return match tableadjustment::adjusted_figures(table, none, rows, columns, k, observed) {
+            Ok(_) => 100 + u32::from(Refusal::Buffer),
+            Err(early) => 100 + u32::from(early),
+        };
     }
-    let told = tableadjustment::adjusted_figures(table, work, rows, columns, k, observed);
-    let refusal = told.refusal;
-    if refusal != 0 {
-        return 100 + refusal;
+    match tableadjustment::adjusted_figures(table, work, rows, columns, k, observed) {
+        Ok(adjusted) => {
+            put(&all_narrow(adjusted.figures)[..columns], figures);
+            0
+        }
+        Err(refusal) => 100 + u32::from(refusal),
     }
-    let all = told.figures;
-    put_figures(all, columns, figures);
-    0
 }
 
 // The adjusted figures of the trial of a file. The result is 0, or 100 plus the refusal number.
@@ -66,19 +68,16 @@ pub extern "C" fn becardlarder_trial_adjusted(
     ensures figures_after { figures.new ≡ trial_adjusted_buffer file.now figures.old }
     ensures rows_after { rows.new ≡ trial_adjusted_rows file.now (length figures.old) rows.old }
 {
-    let answer = trialadjustment::file_figures(file);
-    let told = answer.adjusted;
-    let refusal = told.refusal;
-    if refusal != 0 {
-        return 100 + refusal;
+    match trialadjustment::file_figures(file) {
+        Ok(FileFigures { trial, adjusted }) => {
+            let offers = trial.shape.offers;
+            if figures.len() < offers {
+                return 100 + u32::from(Refusal::Buffer);
+            }
+            put(&all_narrow(adjusted.figures)[..offers], figures);
+            *rows = adjusted.rows as u32;
+            0
+        }
+        Err(refusal) => 100 + u32::from(refusal),
     }
-    let trial = answer.trial;
-    let offers = trial.shape.offers;
-    if figures.len() < offers {
-        return 112;
-    }
-    let all = told.figures;
-    put_figures(all, offers, figures);
-    *rows = told.rows as u32;
-    0
 }

@@ -1,4 +1,4 @@
-// The calls over balanced tables (document 02, §3).
+// The calls over balanced tables.
 ghost use Rattle.std.specs.Prelude.{◌≡◌, length};
 ghost use Rattle.tablebalance.specs.Answers.{balance_buffer};
 ghost use Rattle.host.specs.BalancedCalls.{table_balanced_answer, trial_balanced_verdicts_answer, trial_balanced_verdicts_buffer};
@@ -17,11 +17,10 @@ pub extern "C" fn becardlarder_table_balanced(
     ensures value { result ≡ table_balanced_answer table.now rows columns (length out.old) }
     ensures out_after { out.new ≡ balance_buffer table.now rows columns out.old }
 {
-    let refusal = tablebalance::balanced_table(table, rows, columns, out);
-    if refusal != 0 {
-        return 100 + refusal;
+    match tablebalance::balanced_table(table, rows, columns, out) {
+        Ok(()) => 0,
+        Err(refusal) => 100 + u32::from(refusal),
     }
-    0
 }
 
 // Runs the balanced table of the trial of a file. The result and the buffer are as for `becardlarder_trial_verdicts`.
@@ -30,6 +29,5 @@ pub extern "C" fn becardlarder_trial_balanced_verdicts(file: &[u8], verdicts: &m
     ensures value { result ≡ trial_balanced_verdicts_answer file.now (length verdicts.old) }
     ensures verdicts_after { verdicts.new ≡ trial_balanced_verdicts_buffer file.now verdicts.old }
 {
-    let answer = trialbalance::file_balanced_run(file);
-    tell(answer, verdicts)
+    tell(trialbalance::file_balanced_run(file), verdicts)
 }

@@ -1,5 +1,6 @@
 // The static library of the calls for hosts written in C: each export is the call of the library `host` of that name, with its clauses.
 // include/becardlarder.h documents them for a C programmer; a slice is a pointer and a length there.
+// Each stands here once more, with the same clauses: a static library exports what its own crate names, and other crates call `host`.
 #![tactic(auto)]
 
 ghost use Rattle.std.specs.Prelude.{◌≡◌, length};

@@ -1,4 +1,4 @@
--- The one layout of a trial file (document 01): level, shape, offers, figures, end. Places count words from 0. Definitions only.
+-- The one layout of a trial file: level, shape, offers, figures, end. Places count words from 0. Definitions only.
 --   level_at, shape_at, offers_at   the places of the level, the shape and the first offer
 --   words_per_offer        how many words an offer has
 --   layout_of s             where the offers, the figures and the end of a file of this shape stand

@@ -4,8 +4,8 @@
 --   Remarked, remarked-start, remarked-in, remarked-past, remarked-end     the rows whose numbers stand in a list, one after the other; kept-fits, row_inside: the next one
 --   rows_all, marks-all  all rows, and the marks of those that stay; numbers-inside: the numbers of all rows
 --   all-inside, all-kept, all-marked     the numbers of all rows, and the marks of those that stay
---   tabulated-more, tabulated-all     a table of numbers, one more; doubled, doubled_fits: the bits of columns
-use Prim.Native.Nat.{ℕ, zero, suc, ◌+◌, ◌-◌, ◌*◌, ◌^◌, ◌≤◌, ◌<◌}
+--   tabulated-more, tabulated-all     a table of numbers, one more
+use Prim.Native.Nat.{ℕ, zero, suc, ◌+◌, ◌*◌, ◌^◌, ◌≤◌, ◌<◌}
 use native.Mathlib.Omega.{arith}
 use native.Mathlib.Numerals.{add-one}
 use native.Mathlib.Nat.{pow-suc, mul-add, mul_assoc, mul_comm, mul-zero, one-mul, zero-mul}
@@ -25,7 +25,6 @@ use Rattle.order.proofs.Lists.{map_more, get_d_map, tabulate-length, tabulate-ge
 use Rattle.columns.specs.Columns.{size, columns_of, mask_of}
 use Rattle.masks.specs.Internal.{CheckedTable}
 use Rattle.masks.specs.Marks.{mark_of, those, marks_of, rows_kept, marks_at}
-use Rattle.masks.proofs.Parts.{part-row}
 use Rattle.masks.proofs.Those.{those-more, those-map}
 
 -- ---- one row
@@ -106,10 +105,7 @@ module _ {t : List Float} {rows cols k n : ℕ} {p : Float → Bool} {kept₀ ma
   abbrev g : ℕ
   g = get_or kept i 0
 
-  module _ (x : ℕ) (made : x ≡ mark_of p (take (get_or kept i 0 * cols + cols - get_or kept i 0 * cols) (drop (get_or kept i 0 * cols) t))) where
-    row-mark : x ≡ mark_of p (get_or (rows_of rows cols t) (get_or kept i 0) [])
-    row-mark = made ∙ ap (mark_of p) (part-row t rows cols k (get_or kept i 0) w.ready row_inside)
-
+  module _ (x : ℕ) (row-mark : x ≡ mark_of p (get_or (rows_of rows cols t) (get_or kept i 0) [])) where
     -- one number more
     kept_more : (b : Bool) → leb k (size (columns_of 32 x)) ≡ b → rows_kept k p (rows_of rows cols t) (take (i + 1) kept₀) ≡ take m kept ++ cond b (get_or kept i 0 ∷ []) []
     unfolding rows_kept
@@ -204,9 +200,3 @@ tabulated-more f g x kept us h p e w = ap₂ (λ (j : ℕ) (l : List ℕ). take 
 
 pub tabulated-all : (f : ℕ → ℕ) (g rows : ℕ) (kept : List ℕ) → g ≤ rows → rows ≤ g → take g kept ≡ tabulate g f → take rows kept ≡ tabulate rows f
 tabulated-all f g rows kept h l p = let z : g ≡ rows = omega arith in subst (λ (n : ℕ). take n kept ≡ tabulate n f) z p
-
-pub doubled : (j b : ℕ) → b ≡ 2 ^ j → b * 2 ≡ 2 ^ (j + 1)
-doubled j b e = ap (λ (x : ℕ). x * 2) e ∙ sym (ap (λ (n : ℕ). 2 ^ n) (add-one j) ∙ pow-suc 2 j)
-
-pub doubled_fits : (j b : ℕ) → b ≡ 2 ^ j → j < 32 → b * 2 < 2 ^ 64
-doubled_fits j b e h = let d : j + 1 ≤ 32 = omega arith in let q : 2 ^ (j + 1) ≤ 2 ^ 32 = pow_mono d in omega (arith, doubled j b e, q)

@@ -1,5 +1,4 @@
 -- Sets of columns bit by bit: what a scan from column 0 on has seen, and what is still to come.
---   size-start, size_in, size-past, size-done     a count of the columns
 --   above_from, above-start, above_in, above-past, above-done    a mask of the columns whose value is above v
 --   above-fits, above-room, above-keep     that mask stays below the bit of the next column, and within 32
 --   lowest_from, lowest_start, lowest-hit, lowest-on, lowest-out    the lowest column whose value equals v
@@ -16,11 +15,10 @@ use lib.Seq.{drop-cons}
 use lib.Dec.{eqb}
 use lib.Pow.{pow_mono}
 use lib.Ieee.{Float, nan}
-use borrow.Author.Tests.{eq-eqb, ne_eqb}
 use Rattle.order.specs.Order.{smaller, equal}
-use Rattle.order.specs.Counting.{bit, count}
+use Rattle.order.specs.Counting.{bit}
 use Rattle.order.specs.Lists.{first_at}
-use Rattle.columns.specs.Columns.{Columns, size, ◌∩◌, over, equal_to, lowest, columns_of, mask_of, full_mask}
+use Rattle.columns.specs.Columns.{Columns, ◌∩◌, over, equal_to, lowest, columns_of, mask_of, full_mask}
 
 -- ---- the columns from i on
 
@@ -28,21 +26,6 @@ module _ (cols i s : ℕ) (h : i < cols) where
   split : (b : Bool) → eqb (s % 2) 1 ≡ b → columns_of (cols - i) s ≡ b ∷ columns_of (cols - (i + 1)) (s / 2)
   unfolding columns_of
   split b e = let n : cols - i ≡ suc (cols - (i + 1)) = omega arith in ap (λ (m : ℕ). columns_of m s) n ∙ ap (λ (c : Bool). c ∷ columns_of (cols - (i + 1)) (s / 2)) e
-
-  pub size_in : (n m t : ℕ) → s % 2 ≡ 1 → m ≡ n + 1 → n + size (columns_of (cols - i) s) ≡ t → m + size (columns_of (cols - (i + 1)) (s / 2)) ≡ t
-  unfolding size count
-  size_in n m t e f g = omega (arith, ap size (split true (eq-eqb (s % 2) 1 e)))
-
-  pub size-past : (n m t : ℕ) → (s % 2 ≡ 1 → ⊥) → m ≡ n → n + size (columns_of (cols - i) s) ≡ t → m + size (columns_of (cols - (i + 1)) (s / 2)) ≡ t
-  unfolding size count
-  size-past n m t e f g = omega (arith, ap size (split false (ne_eqb (s % 2) 1 e)))
-
-pub size-done : (cols i s n t : ℕ) → cols ≤ i → n + size (columns_of (cols - i) s) ≡ t → n ≡ t
-unfolding columns_of size count
-size-done cols i s n t h g = let e : cols - i ≡ 0 = omega arith in omega (arith, ap (λ (m : ℕ). size (columns_of m s)) e)
-
-pub size-start : (cols s : ℕ) → 0 + size (columns_of (cols - 0) s) ≡ size (columns_of cols s)
-size-start cols s = let e : cols - 0 ≡ cols = omega arith in omega (arith, ap (λ (m : ℕ). size (columns_of m s)) e)
 
 -- ---- the columns above v
 
@@ -109,9 +92,9 @@ module _ (row : List Float) (i s : ℕ) (v : Float) (h : i < length row) where
   unfolding lowest_from
   lowest-on t e g = omega (arith, lowest-turn false e)
 
-pub lowest-out : (row : List Float) (i s t : ℕ) (v : Float) → length row ≤ i → lowest_from row i s v ≡ t → i ≡ t
+pub lowest-out : (row : List Float) (i s t : ℕ) (v : Float) → i ≤ length row → length row ≤ i → lowest_from row i s v ≡ t → length row ≡ t
 unfolding lowest_from columns_of ◌∩◌ zip_with lowest first_at
-lowest-out row i s t v h g = let e : length row - i ≡ 0 = omega arith in omega (arith, ap (λ (n : ℕ). lowest (columns_of n s ∩ equal_to v (drop i row))) e)
+lowest-out row i s t v l h g = let e : length row - i ≡ 0 = omega arith in omega (arith, ap (λ (n : ℕ). lowest (columns_of n s ∩ equal_to v (drop i row))) e)
 
 pub lowest_start : (row : List Float) (s : ℕ) (v : Float) → lowest_from row 0 s v ≡ lowest (columns_of (length row) s ∩ equal_to v row)
 unfolding lowest_from

@@ -1,6 +1,7 @@
 -- How many columns a mask has.
 --   size-mask          as many as the set that it is the mask of
 --   and-size           those that two masks share
+--   size-wide, size-part     the bits that are 1, of more columns than there are bits and of the first columns
 --   lowest-empty, lowest-out     a mask without its lowest column
 --   fewer-none, fewer-one        the same where t is below k
 --   left_over          at least k columns: one is left without k - 1 of them
@@ -13,11 +14,14 @@ use mathlib.Core.List.{[], ◌∷◌, zip_with}
 use lib.ListN.{length}
 use lib.Dec.{eqb, ltb, leb}
 use lib.Bits.{bit_and, and_step, and_self, and_zero_r}
+use lib.Count.{ones, ones_in, ones_step}
+use lib.Pow.{pow_mono}
+use Rattle.std.proofs.lemmas.Nat.{and_le_r}
 use borrow.Author.Tests.{eq-eqb, ne_eqb, le-leb, lt-leb, lt-ltb, le-ltb}
 use Rattle.order.specs.Counting.{bit, count}
 use Rattle.order.proofs.Counts.{bit-one}
-use Rattle.columns.specs.Columns.{Columns, size, ◌∩◌, columns_of, mask_of}
-use Rattle.columns.proofs.Masks.{size_none}
+use Rattle.columns.specs.Columns.{Columns, size, ◌∩◌, columns_of, mask_of, every_column, full_mask}
+use Rattle.columns.proofs.Masks.{size_none, columns_of-length, mask_of-columns_of, full-columns, full-fits}
 
 -- ---- a mask and its lowest bit
 
@@ -44,6 +48,22 @@ size-mask (suc n) (b ∷ K) h =
     bit-bit true = refl
     bit-bit false = refl
 
+-- the bits that are 1
+size-ones : (n s : ℕ) → s < 2 ^ n → ones s ≡ size (columns_of n s)
+unfolding ones ones_in size count columns_of
+size-ones zero s h = let z : s ≡ 0 = omega arith in rw z refl
+size-ones (suc n) s h = ones_step s ∙ ap₂ (λ (x y : ℕ). x + y) (digit (s % 2) (omega arith)) (size-ones n (s / 2) (omega (arith, pow-suc 2 n))) ∙ sym (size-split n s)
+  where
+    digit : (d : ℕ) → d < 2 → d ≡ bit (eqb d 1)
+    digit zero h = refl
+    digit (suc zero) h = refl
+    digit (suc (suc d)) h = absurd (omega arith)
+
+-- of more columns than the mask has bits
+pub size-wide : (n s : ℕ) → 32 ≤ n → s < 2 ^ 32 → ones s ≡ size (columns_of n s)
+size-wide n s h l =
+    size-ones 32 s l ∙ sym (size-mask n (columns_of 32 s) (omega (arith, columns_of-length 32 s))) ∙ ap (λ (m : ℕ). size (columns_of n m)) (mask_of-columns_of 32 s l)
+
 -- ---- two masks
 
 min-bit : (c d : ℕ) → c < 2 → d < 2 → (min c d < 2) × (bit (eqb (min c d) 1) ≡ bit (eqb c 1 && eqb d 1))
@@ -64,6 +84,26 @@ and-size (suc N) (suc n) m s h l =
     ap (λ (y : ℕ). size (columns_of (suc N) y)) (and_step m s)
     ∙ size-digit N (bit_and (m / 2) (s / 2)) (min (m % 2) (s % 2)) q.0
     ∙ ap₂ (λ (y z : ℕ). y + z) q.1 (and-size N n (m / 2) (s / 2) (omega arith) (omega (arith, pow-suc 2 n)))
+
+and-true : (b : Bool) → (b && true) ≡ b
+and-true true = refl
+and-true false = refl
+
+meet-every : (n : ℕ) (K : Columns) → length K ≡ n → K ∩ every_column n ≡ K
+unfolding ◌∩◌ zip_with
+meet-every zero [] h = refl
+meet-every zero (b ∷ K) h = absurd (omega arith)
+meet-every (suc n) [] h = absurd (omega arith)
+meet-every (suc n) (b ∷ K) h = ap₂ (λ (c : Bool) (L : Columns). c ∷ L) (and-true b) (meet-every n K (omega arith))
+
+-- of the first n columns
+pub size-part : (n s m : ℕ) → n ≤ 32 → m ≡ full_mask n → ones (bit_and s m) ≡ size (columns_of n s)
+size-part n s m h e =
+    let l : m < 2 ^ n = omega (arith, e, full-fits n) in
+    let fits : m < 2 ^ 32 = omega (arith, l, pow_mono h) in
+    size-ones 32 (bit_and s m) (omega (arith, and_le_r s m, fits)) ∙ and-size 32 n s m h l
+    ∙ ap (λ (x : ℕ). size (columns_of n s ∩ columns_of n x)) e ∙ ap (λ (K : Columns). size (columns_of n s ∩ K)) (full-columns n)
+    ∙ ap size (meet-every n (columns_of n s) (columns_of-length n s))
 
 -- ---- a mask without its lowest column
 

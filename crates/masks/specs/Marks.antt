@@ -1,5 +1,6 @@
 -- Rows as masks: the mark of a row is the set of its columns whose value passes a test, as the bits of a number. Definitions only.
 --   passes above v x       x is above v, or, where `above` is false, reaches it
+--   passing b x             the same by a value that says which
 --   mark_of p row           the mark of a row by the test p
 --   holds k s m            at least k columns of the set s are in the mark m
 --   holding k s ms         how many marks hold at least k columns of s
@@ -8,14 +9,20 @@
 --   rows_kept k p X gs     of these numbers of rows of X, those of rows that have at least k columns which pass p
 --   marks_at p X gs        the marks of the rows with these numbers
 --   holding_columns k K ms  the same count as `holding`, for a set as a Bool for each column
-use Rattle.std.specs.Prelude.{ℕ, Bool, cond, List, [], ◌∷◌, map, length, get_or, leb, Float}
+use Rattle.std.specs.Prelude.{ℕ, Bool, true, false, cond, List, [], ◌∷◌, map, length, get_or, leb, Float}
 use Rattle.std.specs.Int.Bits.{bit_and}
 use Rattle.order.specs.Order.{smaller, at_most}
 use Rattle.order.specs.Counting.{count}
+use Rattle.masks.specs.declared.rows.Bound.{Bound}
+use Rattle.masks.specs.declared.rows.Bound.TheVariants.{Above, Reached}
 use Rattle.columns.specs.Columns.{Columns, size, columns_of, mask_of, ◌∩◌}
 
 abbrev pub passes : Bool → Float → Float → Bool
 passes above v x = cond above (smaller v x) (at_most v x)
+
+abbrev pub passing : Bound → Float → Bool
+passing (Above v) x = passes true v x
+passing (Reached v) x = passes false v x
 
 abbrev pub mark_of : (Float → Bool) → List Float → ℕ
 mark_of p row = mask_of (map p row)

@@ -4,6 +4,8 @@
 
 mod rows; // the marks of a table's rows, and counts of them
 mod sets; // one set: its bits and their number
+mod table; // a table that has passed its checks
 
-pub use rows::{count_holding, holds, mark, mark_all};
+pub use rows::{Bound, count_holding, holds, mark, mark_all};
 pub use sets::{above, bit, full_mask, lowest_equal, lowest_over, size_of};
+pub use table::Table;

@@ -3,8 +3,9 @@ ghost use Rattle.std.specs.Prelude.{◌≡◌, ◌<◌, ◌≤◌, ◌-◌, ◌*
 ghost use Rattle.order.specs.Counting.{bit, all};
 ghost use Rattle.order.specs.Lists.{rows_of, tabulate};
 ghost use Rattle.columns.specs.Columns.{size, columns_of};
-ghost use Rattle.masks.specs.Internal.{CheckedTable};
-ghost use Rattle.masks.specs.Marks.{passes, mark_of, rows_kept, marks_at, holds, holding};
+ghost use Rattle.masks.specs.Marks.{passing, mark_of, rows_kept, marks_at, holds, holding};
+
+use super::Table;
 
 // A set without its lowest column. In a function of its own the compiler sees that the test is not needed.
 fn without_lowest(x: u32) -> u32
@@ -50,25 +51,30 @@ pub fn count_holding(marks: &[u32], set: u32, k: usize) -> usize
     requires { (0 < k) × (k ≤ 4) × (length marks.now ≤ 4096) }
     ensures { result ≡ holding k set marks.now }
 {
-    let mut n: u32 = 0;
-    let mut i: usize = 0;
-    while i < marks.len() {
-        if holds(marks[i], set, k) {
-            n += 1;
-        }
-        i += 1;
-    }
+    let n: u32 = marks
+        .iter()
+        .map(|&mark| u32::from(holds(mark, set, k)))
+        .sum();
     n as usize
 }
 
-// Whether x is above v, or, where `above` is false, reaches it.
-fn passes(above: bool, v: f64, x: f64) -> bool
-    ensures { result ≡ passes above v x }
-{
-    if above {
-        return v < x;
+// What is asked of a value: that it is above a bound, or that it reaches it.
+#[derive(Clone, Copy)]
+pub enum Bound {
+    Above(f64),
+    Reached(f64),
+}
+
+impl Bound {
+    // Whether x passes.
+    fn passes(self, x: f64) -> bool
+        ensures { result ≡ passing self x }
+    {
+        match self {
+            Bound::Above(v) => v < x,
+            Bound::Reached(v) => v <= x,
+        }
     }
-    v <= x
 }
 
 // The bit of each column.
@@ -76,36 +82,30 @@ fn bits() -> [u64; 32]
     ensures { result ≡ tabulate 32 (λ j. 2 ^ j) }
 {
     let mut bits = [0u64; 32];
-    let mut b: u64 = 1;
-    let mut j: usize = 0;
-    while j < 32 {
-        bits[j] = b;
-        b *= 2;
-        j += 1;
+    for j in 0..32 {
+        bits[j] = 1 << j;
     }
     bits
 }
 
 // A bit where x passes, and none where it does not.
-fn bit_where(b: u64, above: bool, v: f64, x: f64) -> u64
-    ensures { result ≡ bit (passes above v x) * b }
+fn bit_where(b: u64, bound: Bound, x: f64) -> u64
+    ensures { result ≡ bit (passing bound x) * b }
 {
-    if passes(above, v, x) {
+    if bound.passes(x) {
         return b;
     }
     0
 }
 
 // The columns of a row whose value passes. A sum of words as wide as the values: then the loop takes several columns at a time.
-fn row_mask(row: &[f64], bits: &[u64], above: bool, v: f64) -> u32
+fn row_mask(row: &[f64], bits: &[u64], bound: Bound) -> u32
     requires { (length row.now ≤ 32) × (bits.now ≡ tabulate 32 (λ j. 2 ^ j)) }
-    ensures { result ≡ mark_of (λ x. passes above v x) row.now }
+    ensures { result ≡ mark_of (passing bound) row.now }
 {
     let mut m: u64 = 0;
-    let mut i: usize = 0;
-    while i < row.len() {
-        m += bit_where(bits[i], above, v, row[i]);
-        i += 1;
+    for (i, &x) in row.iter().enumerate() {
+        m += bit_where(bits[i], bound, x);
     }
     m as u32
 }
@@ -115,61 +115,36 @@ fn every_row(kept: &mut [u16], rows: usize)
     requires { (rows ≤ 4096) × (rows ≤ length kept.old) }
     ensures { take rows kept.new ≡ tabulate rows (λ g. g) }
 {
-    let mut g: usize = 0;
-    while g < rows {
+    for g in 0..rows {
         kept[g] = g as u16;
-        g += 1;
     }
 }
 
 // Of the n rows whose numbers stand in `kept`, those stay that have at least k columns which pass, and their marks are made anew: answers how many. Each row is
 // written to the next place, which is taken only where the row stays: no branch.
-pub fn mark(
-    table: &[f64],
-    kept: &mut [u16],
-    marks: &mut [u32],
-    n: usize,
-    rows: usize,
-    columns: usize,
-    k: usize,
-    above: bool,
-    v: f64,
-) -> usize
-    requires { CheckedTable table.now rows columns k × (n ≤ length kept.old) × (n ≤ length marks.old) × T (all (λ g. ltb g rows) (take n kept.old)) }
-    ensures { (result ≤ n) × (take result kept.new ≡ rows_kept k (λ x. passes above v x) (rows_of rows columns table.now) (take n kept.old)) × (take result marks.new ≡ marks_at (λ x. passes above v x) (rows_of rows columns table.now) (take result kept.new)) }
+pub fn mark(table: Table<'_>, kept: &mut [u16], marks: &mut [u32], n: usize, bound: Bound) -> usize
+    requires { (n ≤ length kept.old) × (n ≤ length marks.old) × T (all (λ g. ltb g table.rows) (take n kept.old)) }
+    ensures { (result ≤ n) × (take result kept.new ≡ rows_kept table.entry.k (passing bound) (rows_of table.entry.rows table.entry.columns table.entry.values.now) (take n kept.old)) × (take result marks.new ≡ marks_at (passing bound) (rows_of table.entry.rows table.entry.columns table.entry.values.now) (take result kept.new)) }
 {
     let bits = bits();
     let mut m: usize = 0;
-    let mut i: usize = 0;
-    while i < n {
+    for i in 0..n {
         let g = kept[i];
-        let a = (g as usize) * columns;
-        let e = a + columns;
-        let x = row_mask(&table[a..e], &bits, above, v);
+        let x = row_mask(table.row(g as usize), &bits, bound);
         kept[m] = g;
         marks[m] = x;
-        if has_at_least(x, k) {
+        if has_at_least(x, table.k) {
             m += 1;
         }
-        i += 1;
     }
     m
 }
 
 // The same from all rows on.
-pub fn mark_all(
-    table: &[f64],
-    kept: &mut [u16],
-    marks: &mut [u32],
-    rows: usize,
-    columns: usize,
-    k: usize,
-    above: bool,
-    v: f64,
-) -> usize
-    requires { CheckedTable table.now rows columns k × (rows ≤ length kept.old) × (rows ≤ length marks.old) }
-    ensures { (result ≤ rows) × (take result kept.new ≡ rows_kept k (λ x. passes above v x) (rows_of rows columns table.now) (tabulate rows (λ g. g))) × (take result marks.new ≡ marks_at (λ x. passes above v x) (rows_of rows columns table.now) (take result kept.new)) }
+pub fn mark_all(table: Table<'_>, kept: &mut [u16], marks: &mut [u32], bound: Bound) -> usize
+    requires { (table.rows ≤ length kept.old) × (table.rows ≤ length marks.old) }
+    ensures { (result ≤ table.entry.rows) × (take result kept.new ≡ rows_kept table.entry.k (passing bound) (rows_of table.entry.rows table.entry.columns table.entry.values.now) (tabulate table.entry.rows (λ g. g))) × (take result marks.new ≡ marks_at (passing bound) (rows_of table.entry.rows table.entry.columns table.entry.values.now) (take result kept.new)) }
 {
-    every_row(kept, rows);
-    mark(table, kept, marks, rows, rows, columns, k, above, v)
+    every_row(kept, table.rows);
+    mark(table, kept, marks, table.rows, bound)
 }

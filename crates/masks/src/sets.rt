@@ -17,7 +17,7 @@ pub fn full_mask(cols: usize) -> u32
     ensures { result ≡ full_mask cols }
 {
     if cols == 32 {
-        return 4294967295;
+        return u32::MAX;
     }
     bit(cols) - 1
 }
@@ -26,27 +26,17 @@ pub fn full_mask(cols: usize) -> u32
 pub fn size_of(cols: usize, set: u32) -> usize
     ensures { result ≡ size (columns_of cols set) }
 {
-    let mut n: usize = 0;
-    let mut s = set;
-    let mut i: usize = 0;
-    while i < cols {
-        if s % 2 == 1 {
-            n += 1;
-        }
-        s /= 2;
-        i += 1;
+    if 32 < cols {
+        return set.count_ones() as usize;
     }
-    n
+    (set & full_mask(cols)).count_ones() as usize
 }
 
 // Whether the lowest column is in the set and its value is larger than v.
 pub fn lowest_over(s: u32, v: f64, x: f64) -> bool
     ensures { result ≡ (eqb (s % 2) 1 && smaller v x) }
 {
-    if s % 2 == 1 {
-        return v < x;
-    }
-    false
+    s % 2 == 1 && v < x
 }
 
 // The columns of a set whose value in the row is larger than v.
@@ -56,13 +46,11 @@ pub fn above(row: &[f64], set: u32, v: f64) -> u32
 {
     let mut m: u32 = 0;
     let mut s = set;
-    let mut i: usize = 0;
-    while i < row.len() {
-        if lowest_over(s, v, row[i]) {
+    for (i, &x) in row.iter().enumerate() {
+        if lowest_over(s, v, x) {
             m += bit(i);
         }
         s /= 2;
-        i += 1;
     }
     m
 }
@@ -71,10 +59,7 @@ pub fn above(row: &[f64], set: u32, v: f64) -> u32
 fn lowest_is(s: u32, v: f64, x: f64) -> bool
     ensures { result ≡ (eqb (s % 2) 1 && equal v x) }
 {
-    if s % 2 == 1 {
-        return order::equal(v, x);
-    }
-    false
+    s % 2 == 1 && order::equal(v, x)
 }
 
 // The lowest column of a set whose value in the row equals v; the number of columns where there is none.
@@ -82,13 +67,11 @@ pub fn lowest_equal(row: &[f64], set: u32, v: f64) -> usize
     ensures { result ≡ lowest (columns_of (length row.now) set ∩ equal_to v row.now) }
 {
     let mut s = set;
-    let mut i: usize = 0;
-    while i < row.len() {
-        if lowest_is(s, v, row[i]) {
+    for (i, &x) in row.iter().enumerate() {
+        if lowest_is(s, v, x) {
             return i;
         }
         s /= 2;
-        i += 1;
     }
-    i
+    row.len()
 }

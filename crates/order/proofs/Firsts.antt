@@ -2,7 +2,7 @@
 --   first_passes, first-before     it passes, and none before it does
 --   first-le, first-none           its place is at most the number of members; where there is none no member passes
 --   first-same, first-map          by another test that tells the same, and of a mapped list
---   first-start, first-hit, first_on, first-skip, first_out     a search from the front: it begins, finds the member, goes on by one or by a block, or finds none
+--   first-hit, first_on, first-skip, first_out     a search from the front: it finds the member, goes on by one or by a block, or finds none
 use Prim.Native.Nat.{ℕ, zero, suc, ◌+◌, ◌-◌, ◌≤◌, ◌<◌}
 use native.Mathlib.Omega.{arith}
 use native.Mathlib.Numerals.{add-one}
@@ -80,9 +80,6 @@ module _ {A : Type 0} where
   drop-first p (x ∷ xs) d (suc i) h = drop-first p xs d i (omega arith)
 
   module _ (p : A → Bool) (xs : List A) (d : A) where
-    pub first-start : first_at p xs ≡ 0 + first_at p (drop 0 xs)
-    first-start = omega arith
-
     here : (i : ℕ) → i < length xs → first_at p (drop i xs) ≡ cond (p (get_or xs i d)) 0 (suc (first_at p (drop (i + 1) xs)))
     here i h = drop-first p xs d i h ∙ ap (λ (n : ℕ). cond (p (get_or xs i d)) 0 (suc (first_at p (drop n xs)))) (sym (add-one i))
 

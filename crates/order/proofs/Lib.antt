@@ -14,4 +14,5 @@ pub mod Signed
 pub mod Powers
 pub mod Injections
 pub mod Whole
+pub mod Library
 pub mod Filling

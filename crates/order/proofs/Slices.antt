@@ -2,12 +2,14 @@
 use Prim.Native.Nat.{ℕ, ◌+◌, ◌≤◌, ◌<◌}
 use native.Mathlib.Numerals.{add-one}
 use native.Mathlib.Omega.{arith}
-use mathlib.Core.Path.{◌≡◌, ap, ◌∙◌}
+use mathlib.Core.Path.{◌≡◌, refl, ap, ◌∙◌}
 use mathlib.Core.Bool.{Bool, true, false, ◌&&◌}
-use mathlib.Core.List.{List}
-use lib.ListN.{length, get_or, drop, drop_of_length-le}
-use lib.Seq.{drop-cons}
+use mathlib.Core.List.{List, [], ◌∷◌}
+use lib.ListN.{length, get_or, take, drop, drop_of_length-le, length-take}
+use lib.Seq.{drop-cons, take-suc, take_all}
+use Rattle.std.proofs.lemmas.Grind.{common_steps}
 use Rattle.order.specs.Counting.{all, count, bit}
+use Rattle.order.proofs.Counts.{count-append, count-length}
 
 module _ {A : Type 0} (p : A → Bool) (xs : List A) (i : ℕ) (d : A) where
   all_more : i < length xs → all p (drop i xs) ≡ (p (get_or xs i d) && all p (drop (i + 1) xs))
@@ -50,3 +52,21 @@ module _ {A : Type 0} (p : A → Bool) (xs : List A) (i : ℕ) (d : A) where
 
   pub counted-all : (n t : ℕ) → length xs ≤ i → n + count p (drop i xs) ≡ t → n ≡ t
   counted-all n t h g = omega (arith, count-end h)
+
+-- a count as far as a loop has come: one member more, never more than there are, and all of them in the end
+module _ {A : Type 0} where
+  pub count-next : (p : A → Bool) (xs : List A) (i : ℕ) (d : A) → i < length xs → count p (take (i + 1) xs) ≡ count p (take i xs) + bit (p (get_or xs i d))
+  unfolding count
+  count-next p xs i d h = rw (add-one, take-suc xs i d h) (count-append p (take i xs) (get_or xs i d ∷ []) ∙ omega arith)
+
+  pub count-front : (p : A → Bool) (xs : List A) (i : ℕ) → count p (take i xs) ≤ i
+  count-front p xs i = omega (arith, count-length p (take i xs), length-take i xs)
+
+  pub count-whole : (p : A → Bool) (xs : List A) (i : ℕ) → length xs ≤ i → count p (take i xs) ≡ count p xs
+  count-whole p xs i h = ap (count p) (take_all i xs h)
+
+  pub count-none : (p : A → Bool) → count p [] ≡ 0
+  unfolding count
+  count-none p = refl
+
+pub ruleset counts = (count-none, count-next, count-front, count-whole, common_steps)

@@ -15,39 +15,23 @@ pub use equals::{first_equal, has_equal};
 pub use pairs::{equal, larger, lesser, one_where};
 
 // Whether x is neither infinite nor no number.
+#[tactic(auto, using(crate::proofs::Library::finite_is))]
 pub fn is_finite(x: f64) -> bool
     ensures { result ≡ finite x }
 {
-    let top = f64::from_bits(0x7FF0_0000_0000_0000);
-    if x < top {
-        let bottom = f64::from_bits(0xFFF0_0000_0000_0000);
-        return bottom < x;
-    }
-    false
+    x.is_finite()
 }
 
-// Whether every value of a slice is finite. All are looked at, so that the loop takes several at a time.
+// Whether every value of a slice is finite.
 pub fn all_finite(xs: &[f64]) -> bool
     ensures { result ≡ all finite xs.now }
 {
-    let mut n: usize = 0;
-    let mut i: usize = 0;
-    while i < xs.len() {
-        let x = xs[i];
-        if is_finite(x) {
-            n += 1;
-        }
-        i += 1;
-    }
-    n == xs.len()
+    xs.iter().all(|x| is_finite(*x))
 }
 
 // x, and plus zero for either zero.
 pub fn plus_zero(x: f64) -> f64
     ensures { result ≡ with_plus_zero x }
 {
-    if x == 0.0 {
-        return 0.0;
-    }
-    x
+    if x == 0.0 { 0.0 } else { x }
 }

@@ -7,38 +7,27 @@ ghost use Rattle.order.specs.Counting.{bit};
 pub fn larger(x: f64, y: f64) -> f64
     ensures { result ≡ larger x y }
 {
-    if x < y {
-        return y;
-    }
-    x
+    if x < y { y } else { x }
 }
 
 // The other one.
 pub fn lesser(x: f64, y: f64) -> f64
     ensures { result ≡ lesser x y }
 {
-    if x < y {
-        return x;
-    }
-    y
+    if x < y { x } else { y }
 }
 
 // 1 where x reaches v, and 0 where it does not.
 pub fn one_where(v: f64, x: f64) -> usize
     ensures { result ≡ bit (at_most v x) }
 {
-    if v <= x {
-        return 1;
-    }
-    0
+    usize::from(v <= x)
 }
 
 // Whether two values are equal as numbers: minus zero and zero are.
+#[tactic(auto, using(crate::proofs::Library::equal_eq))]
 pub fn equal(x: f64, y: f64) -> bool
     ensures { result ≡ equal x y }
 {
-    if x <= y {
-        return y <= x;
-    }
-    false
+    x == y
 }

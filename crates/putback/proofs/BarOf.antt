@@ -123,8 +123,8 @@ module _ {t : List Float} {rows cols k : ℕ} (e : ℕ) (r : CheckedTable t rows
     columns-are : columns_of cols h.set ≡ K
     columns-are = ap₂ (λ (n m : ℕ). columns_of n m) (sym (eqb→eq (length K) cols (and_left (eqb (length K) cols) (leb k (size K)) member))) held ∙ columns_of-mask_of K
 
-    pub branch-ready : T (finite h.value) × CheckedTable t rows cols k × (k ≤ size (columns_of cols h.set))
-    branch-ready = (value-finite, r, let w = leb→le k (size K) (and_right (eqb (length K) cols) (leb k (size K)) member) in subst (λ (L : Columns). k ≤ size L) (sym columns-are) w)
+    pub branch-ready : T (finite h.value) × (k ≤ size (columns_of cols h.set))
+    branch-ready = (value-finite, let w = leb→le k (size K) (and_right (eqb (length K) cols) (leb k (size K)) member) in subst (λ (L : Columns). k ≤ size L) (sym columns-are) w)
 
     pub branch-bar : (row : ℕ) → row ≡ bar_row k X (columns_of cols h.set) h.value → record { value = h.value; set = h.set; row = row } ≡ bar_in b
     unfolding bar_of

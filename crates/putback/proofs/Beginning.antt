@@ -18,7 +18,6 @@ use Rattle.columns.specs.Columns.{size, columns_of}
 use Rattle.columns.proofs.Masks.{columns_of-zero}
 use Rattle.masks.specs.Internal.{CheckedTable, Walk}
 use Rattle.masks.specs.Marks.{passes, rows_kept, marks_at}
-use Rattle.critical.specs.declared.Figures.{Figures}
 use Rattle.putback.specs.Internal.{At, Going}
 
 pub start-at : {cols k remaining rejected : ℕ} → 0 < k → Walk cols remaining rejected 0 → k ≤ size (columns_of cols remaining) + (k - 1) → At cols k (record { set = remaining; rest = rejected; from = 0; left = k - 1 })
@@ -31,15 +30,15 @@ alone_at {cols} {k} {set} pos h m = record {
   fewer = pos;
 }
 
-pub start-going : (t : List Float) (f : Figures) (work : List Float) (kept marks : List ℕ) (v : Float) (s n : ℕ) → CheckedTable t f.rows f.columns f.k → f.e < f.rows → f.rows ≤ length work → f.rows ≤ length kept → f.rows ≤ length marks → T (low v) → n ≤ f.rows
-    → take n kept ≡ rows_kept f.k (λ x. passes true v x) (rows_of f.rows f.columns t) (tabulate f.rows (λ g. g)) → take n marks ≡ marks_at (λ x. passes true v x) (rows_of f.rows f.columns t) (take n kept)
-    → Going t f work kept marks (record { value = v; set = s; n = n; risen = false })
-start-going t f work kept marks v s n r rare w a b l few p q = record {
+pub start-going : (t : List Float) (rows cols k allow : ℕ) (work : List Float) (kept marks : List ℕ) (v : Float) (s n : ℕ) → CheckedTable t rows cols k → allow < rows → rows ≤ length work → rows ≤ length kept → rows ≤ length marks → T (low v) → n ≤ rows
+    → take n kept ≡ rows_kept k (λ x. passes true v x) (rows_of rows cols t) (tabulate rows (λ g. g)) → take n marks ≡ marks_at (λ x. passes true v x) (rows_of rows cols t) (take n kept)
+    → Going t rows cols k allow work kept marks (record { best = record { value = v; set = s }; n = n; risen = false })
+start-going t rows cols k allow work kept marks v s n r rare w a b l few p q = record {
   ready = r;
   rare = rare;
   work-room = w;
   kept-room = a;
   marks-room = b;
   few = few;
-  marked = record { floor = l; stay = p ∙ ap (λ (m : ℕ). rows_kept f.k (λ x. passes true v x) (rows_of f.rows f.columns t) (tabulate m (λ g. g))) (sym (rows_of-length f.rows f.columns t)); marked = q };
+  marked = record { floor = l; stay = p ∙ ap (λ (m : ℕ). rows_kept k (λ x. passes true v x) (rows_of rows cols t) (tabulate m (λ g. g))) (sym (rows_of-length rows cols t)); marked = q };
 }

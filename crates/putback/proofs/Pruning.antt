@@ -29,63 +29,62 @@ use Rattle.method.proofs.Critical.{critical_value-finite}
 use Rattle.method.proofs.Exceeding.{exceed-yes, exceed-not}
 use Rattle.masks.specs.Marks.{passes, holding, holding_columns, rows_kept, marks_at}
 use Rattle.masks.proofs.Marks.{holding-columns, holding-more, holding-fewer}
-use Rattle.critical.specs.declared.Figures.{Figures}
 use Rattle.critical.proofs.Raising.{marked-inside, marked-columns, marked-count, marked-again}
-use Rattle.putback.specs.Internal.{best, better, sets_of, unite, hopeless_in, At, Going}
+use Rattle.putback.specs.Internal.{better, sets_of, unite, hopeless_in, At, Going}
 use Rattle.putback.specs.declared.branch.Branch.{Branch}
 use Rattle.putback.specs.declared.walk.Held.{Held}
 use Rattle.putback.proofs.Better.{better-stays, better-taken}
 use Rattle.putback.proofs.Branches.{Member, sets-each, unite-lt}
 
-module _ {t : List Float} {f : Figures} {work : List Float} {kept marks : List ℕ} {h : Held} (g : Going t f work kept marks h) where
+module _ {t : List Float} {rows cols k allow : ℕ} {work : List Float} {kept marks : List ℕ} {h : Held} (g : Going t rows cols k allow work kept marks h) where
   abbrev X : List (List Float)
-  X = rows_of f.rows f.columns t
+  X = rows_of rows cols t
 
   abbrev ms : List ℕ
   ms = take h.n marks
 
   abbrev c : Columns → Float
-  c K = critical_value f.k f.e (rows_of f.rows f.columns t) K
+  c K = critical_value k allow (rows_of rows cols t) K
 
-  sound : Sound f.columns (rows_of f.rows f.columns t)
-  sound = rows_of-sound f.rows f.columns t g.ready.full g.ready.finitely
+  sound : Sound cols (rows_of rows cols t)
+  sound = rows_of-sound rows cols t g.ready.full g.ready.finitely
 
-  fewer : f.e < length (rows_of f.rows f.columns t)
-  fewer = omega (arith, g.rare, rows_of-length f.rows f.columns t)
+  fewer : allow < length (rows_of rows cols t)
+  fewer = omega (arith, g.rare, rows_of-length rows cols t)
 
-  pub kept-inside : T (all (λ i. ltb i f.rows) (take h.n kept))
-  kept-inside = subst (λ (n : ℕ). T (all (λ i. ltb i n) (take h.n kept))) (rows_of-length f.rows f.columns t) (marked-inside f.columns f.k X sound g.ready.cols-most g.marked)
+  pub kept-inside : T (all (λ i. ltb i rows) (take h.n kept))
+  kept-inside = subst (λ (n : ℕ). T (all (λ i. ltb i n) (take h.n kept))) (rows_of-length rows cols t) (marked-inside cols k X sound g.ready.cols-most g.marked)
 
   pub marks-few : length (take h.n marks) ≤ 4096
   marks-few = omega (arith, length-take-le h.n marks (omega (arith, g.few, g.marks-room)), g.few, g.ready.rows-most)
 
   -- too few marks hold k columns of a set: it does not rise
-  stays : (K : Columns) → length K ≡ f.columns → f.k ≤ size K → holding_columns f.k K ms ≤ f.e → smaller h.value (c K) ≡ false
-  stays K l wide q = exceed-not f.columns f.k K l g.ready.k-some wide h.value g.marked.floor f.e X sound fewer
-      (omega (arith, q, marked-columns f.columns f.k X sound g.ready.cols-most g.marked K l))
+  stays : (K : Columns) → length K ≡ cols → k ≤ size K → holding_columns k K ms ≤ allow → smaller h.best.value (c K) ≡ false
+  stays K l wide q = exceed-not cols k K l g.ready.k-some wide h.best.value g.marked.floor allow X sound fewer
+      (omega (arith, q, marked-columns cols k X sound g.ready.cols-most g.marked K l))
 
-  module _ (s : ℕ) (inside : s < 2 ^ f.columns) (wide : f.k ≤ size (columns_of f.columns s)) (x : ℕ) (counted : x ≡ holding f.k s (take h.n marks)) where
-    pub still-going : Going t f work kept marks (record { value = h.value; set = h.set; n = h.n; risen = false })
+  module _ (s : ℕ) (inside : s < 2 ^ cols) (wide : k ≤ size (columns_of cols s)) (x : ℕ) (counted : x ≡ holding k s (take h.n marks)) where
+    pub still-going : Going t rows cols k allow work kept marks (record { best = h.best; n = h.n; risen = false })
     still-going = record { ready = g.ready; rare = g.rare; work-room = g.work-room; kept-room = g.kept-room; marks-room = g.marks-room; few = g.few; marked = g.marked }
 
-    pub leaf-held : x ≤ f.e → best h ≡ better (λ K. critical_value f.k f.e (rows_of f.rows f.columns t) K) (best h) (columns_of f.columns s ∷ [])
+    pub leaf-held : x ≤ allow → h.best ≡ better (λ K. critical_value k allow (rows_of rows cols t) K) h.best (columns_of cols s ∷ [])
     unfolding all
-    leaf-held q = sym (better-stays c (best h) (columns_of f.columns s ∷ []) (rw (stays (columns_of f.columns s) (columns_of-length f.columns s) wide
-        (omega (arith, counted, holding-columns f.columns f.k s ms g.ready.cols-most inside))) tt))
+    leaf-held q = sym (better-stays c h.best (columns_of cols s ∷ []) (rw (stays (columns_of cols s) (columns_of-length cols s) wide
+        (omega (arith, counted, holding-columns cols k s ms g.ready.cols-most inside))) tt))
 
-    module _ (q : f.e < x) where
-      rises : T (smaller h.value (c (columns_of f.columns s)))
-      rises = exceed-yes f.columns f.k (columns_of f.columns s) (columns_of-length f.columns s) g.ready.k-some wide h.value g.marked.floor f.e X sound fewer
-          (omega (arith, counted, marked-count f.columns f.k X sound g.ready.cols-most g.marked s inside))
+    module _ (q : allow < x) where
+      rises : T (smaller h.best.value (c (columns_of cols s)))
+      rises = exceed-yes cols k (columns_of cols s) (columns_of-length cols s) g.ready.k-some wide h.best.value g.marked.floor allow X sound fewer
+          (omega (arith, counted, marked-count cols k X sound g.ready.cols-most g.marked s inside))
 
-      pub leaf-risen : (v : Float) → v ≡ critical_value f.k f.e (rows_of f.rows f.columns t) (columns_of f.columns s)
-          → record { value = v; set = s } ≡ better (λ K. critical_value f.k f.e (rows_of f.rows f.columns t) K) (best h) (columns_of f.columns s ∷ [])
-      leaf-risen v e = ap₂ (λ (y : Float) (m : ℕ). record { value = y; set = m }) e (sym (mask_of-columns_of f.columns s inside)) ∙ sym (better-taken c (best h) (columns_of f.columns s) (T_true (smaller h.value (c (columns_of f.columns s))) rises))
+      pub leaf-risen : (v : Float) → v ≡ critical_value k allow (rows_of rows cols t) (columns_of cols s)
+          → record { value = v; set = s } ≡ better (λ K. critical_value k allow (rows_of rows cols t) K) h.best (columns_of cols s ∷ [])
+      leaf-risen v e = ap₂ (λ (y : Float) (m : ℕ). record { value = y; set = m }) e (sym (mask_of-columns_of cols s inside)) ∙ sym (better-taken c h.best (columns_of cols s) (T_true (smaller h.best.value (c (columns_of cols s))) rises))
 
-      pub risen : (v : Float) (m : ℕ) (work' : List Float) (kept' marks' : List ℕ) → v ≡ critical_value f.k f.e (rows_of f.rows f.columns t) (columns_of f.columns s)
+      pub risen : (v : Float) (m : ℕ) (work' : List Float) (kept' marks' : List ℕ) → v ≡ critical_value k allow (rows_of rows cols t) (columns_of cols s)
           → length work' ≡ length work → length kept' ≡ length kept → length marks' ≡ length marks → m ≤ h.n
-          → take m kept' ≡ rows_kept f.k (λ x. passes true v x) (rows_of f.rows f.columns t) (take h.n kept) → take m marks' ≡ marks_at (λ x. passes true v x) (rows_of f.rows f.columns t) (take m kept')
-          → Going t f work' kept' marks' (record { value = v; set = s; n = m; risen = true })
+          → take m kept' ≡ rows_kept k (λ x. passes true v x) (rows_of rows cols t) (take h.n kept) → take m marks' ≡ marks_at (λ x. passes true v x) (rows_of rows cols t) (take m kept')
+          → Going t rows cols k allow work' kept' marks' (record { best = record { value = v; set = s }; n = m; risen = true })
       risen v m work' kept' marks' e a b d l r z = record {
         ready = g.ready;
         rare = g.rare;
@@ -93,38 +92,38 @@ module _ {t : List Float} {f : Figures} {work : List Float} {kept marks : List �
         kept-room = omega (arith, b, g.kept-room);
         marks-room = omega (arith, d, g.marks-room);
         few = omega (arith, l, g.few);
-        marked = marked-again f.columns f.k X sound g.ready.cols-most g.marked v
-            (subst (λ (y : Float). T (Rattle.order.specs.Order.low y)) (sym e) (finite-low (c (columns_of f.columns s)) (critical_value-finite f.columns f.k f.e X (columns_of f.columns s) sound)))
-            (subst (λ (y : Float). T (smaller h.value y)) (sym e) rises) (take m kept') (take m marks') r z;
+        marked = marked-again cols k X sound g.ready.cols-most g.marked v
+            (subst (λ (y : Float). T (Rattle.order.specs.Order.low y)) (sym e) (finite-low (c (columns_of cols s)) (critical_value-finite cols k allow X (columns_of cols s) sound)))
+            (subst (λ (y : Float). T (smaller h.best.value y)) (sym e) rises) (take m kept') (take m marks') r z;
       }
 
   -- by the columns of `set` alone, and by all columns of the branch
-  pub pruned : (b : Branch) → At f.columns f.k b → T (hopeless_in f.k f.e (take h.n marks) b) → best h ≡ better (λ K. critical_value f.k f.e (rows_of f.rows f.columns t) K) (best h) (sets_of f.columns b)
+  pub pruned : (b : Branch) → At cols k b → T (hopeless_in k allow (take h.n marks) b) → h.best ≡ better (λ K. critical_value k allow (rows_of rows cols t) K) h.best (sets_of cols b)
   unfolding hopeless_in
-  pruned b a e = sym (better-stays c (best h) (sets_of f.columns b) (sets-each a (λ K. not (smaller h.value (c K))) (λ K m. falls K m (either (leb (holding (f.k - b.left) b.set ms) f.e) (leb (holding f.k (unite b) ms) f.e) e))))
+  pruned b a e = sym (better-stays c h.best (sets_of cols b) (sets-each a (λ K. not (smaller h.best.value (c K))) (λ K m. falls K m (either (leb (holding (k - b.left) b.set ms) allow) (leb (holding k (unite b) ms) allow) e))))
     where
       either : (x y : Bool) → T (x || y) → T x ⊎ T y
       either true y q = inl tt
       either false y q = inr q
 
-      by-set : (K : Columns) → Member a K → T (leb (holding (f.k - b.left) b.set ms) f.e) → holding_columns f.k K ms ≤ f.e
+      by-set : (K : Columns) → Member a K → T (leb (holding (k - b.left) b.set ms) allow) → holding_columns k K ms ≤ allow
       by-set K m q = omega (
         arith,
-        leb→le (holding (f.k - b.left) b.set ms) f.e q,
-        holding-columns f.columns (f.k - b.left) b.set ms g.ready.cols-most a.walk.inside,
-        ap (λ (L : Columns). holding_columns f.k L ms) m.made,
-        holding-fewer f.k b.left (columns_of f.columns b.set) m.other ms m.other_length (omega (arith, m.other-size)),
+        leb→le (holding (k - b.left) b.set ms) allow q,
+        holding-columns cols (k - b.left) b.set ms g.ready.cols-most a.walk.inside,
+        ap (λ (L : Columns). holding_columns k L ms) m.made,
+        holding-fewer k b.left (columns_of cols b.set) m.other ms m.other_length (omega (arith, m.other-size)),
       )
 
-      by_all : (K : Columns) → Member a K → T (leb (holding f.k (unite b) ms) f.e) → holding_columns f.k K ms ≤ f.e
+      by_all : (K : Columns) → Member a K → T (leb (holding k (unite b) ms) allow) → holding_columns k K ms ≤ allow
       by_all K m q = omega (
         arith,
-        leb→le (holding f.k (unite b) ms) f.e q,
-        holding-columns f.columns f.k (unite b) ms g.ready.cols-most (unite-lt a),
-        holding-more f.k ms m.inside,
+        leb→le (holding k (unite b) ms) allow q,
+        holding-columns cols k (unite b) ms g.ready.cols-most (unite-lt a),
+        holding-more k ms m.inside,
       )
 
-      falls : (K : Columns) → Member a K → T (leb (holding (f.k - b.left) b.set ms) f.e) ⊎ T (leb (holding f.k (unite b) ms) f.e) → T (not (smaller h.value (c K)))
+      falls : (K : Columns) → Member a K → T (leb (holding (k - b.left) b.set ms) allow) ⊎ T (leb (holding k (unite b) ms) allow) → T (not (smaller h.best.value (c K)))
       falls K m o = rw (stays K m.whole m.wide (⊎_elim (by-set K m) (by_all K m) o)) tt
 
 -- ---- the test by its parts

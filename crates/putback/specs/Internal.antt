@@ -7,8 +7,7 @@
 --   unite b              the mask of all columns of a branch
 --   hopeless_in k e ms b  by the marks ms, no set of the branch can have more than e rows
 --   At cols k b          what holds of each branch of the walk
---   best h               what is held, without the number of marked rows and whether the last set rose
---   Going t f work kept marks h     what holds of a table, of the buffers and of what is held
+--   Going t rows cols k allow work kept marks h     what holds of a table, of the buffers and of what is held
 use Rattle.std.specs.Prelude.{ℕ, ◌+◌, ◌-◌, ◌*◌, ◌/◌, ◌^◌, ◌≤◌, ◌<◌, Bool, false, cond, ◌||◌, List, [], ◌∷◌, ◌++◌, map, leb, length, take, replicate, Float}
 use Rattle.order.specs.Order.{smaller, larger}
 use Rattle.order.specs.Lists.{rows_of}
@@ -17,7 +16,6 @@ use Rattle.method.specs.Bars.{bar_set, bar_row}
 use Rattle.masks.specs.Internal.{CheckedTable, Walk}
 use Rattle.masks.specs.Marks.{holding}
 use Rattle.critical.specs.Internal.{Marked}
-use Rattle.critical.specs.declared.Figures.{Figures}
 use Rattle.putback.specs.declared.branch.Branch.{Branch}
 use Rattle.putback.specs.declared.walk.Held.{Held}
 use Rattle.putback.specs.declared.walk.Best.{Best}
@@ -64,14 +62,11 @@ pub record At (cols k : ℕ) (b : Branch) : Type 0 where
 
 -- ---- what is held
 
-abbrev pub best : Held → Best
-best h = record { value = h.value; set = h.set }
-
-pub record Going (t : List Float) (f : Figures) (work : List Float) (kept marks : List ℕ) (h : Held) : Type 0 where
-  pub ready : CheckedTable t f.rows f.columns f.k
-  pub rare : f.e < f.rows
-  pub work-room : f.rows ≤ length work
-  pub kept-room : f.rows ≤ length kept
-  pub marks-room : f.rows ≤ length marks
-  pub few : h.n ≤ f.rows
-  pub marked : Marked (rows_of f.rows f.columns t) f.k h.value (take h.n kept) (take h.n marks)
+pub record Going (t : List Float) (rows cols k allow : ℕ) (work : List Float) (kept marks : List ℕ) (h : Held) : Type 0 where
+  pub ready : CheckedTable t rows cols k
+  pub rare : allow < rows
+  pub work-room : rows ≤ length work
+  pub kept-room : rows ≤ length kept
+  pub marks-room : rows ≤ length marks
+  pub few : h.n ≤ rows
+  pub marked : Marked (rows_of rows cols t) k h.best.value (take h.n kept) (take h.n marks)

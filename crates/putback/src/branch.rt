@@ -29,9 +29,8 @@ pub(crate) fn without_next(b: Branch) -> Branch
     ensures { result ≡ without b }
 {
     Branch {
-        set: b.set,
         rest: b.rest / 2,
         from: b.from + 1,
-        left: b.left,
+        ..b
     }
 }

@@ -14,13 +14,13 @@ ghost use Rattle.std.specs.Float.{inf};
 ghost use Rattle.order.specs.Lists.{rows_of};
 ghost use Rattle.columns.specs.Columns.{size, ◌∪◌, choose, columns_of};
 ghost use Rattle.method.specs.Method.{critical_value, put_back};
-ghost use Rattle.masks.specs.Internal.{CheckedTable, Walk};
+ghost use Rattle.masks.specs.Internal.{Walk};
 ghost use Rattle.putback.specs.Internal.{At, sets_of, best_of, bar_of};
 
 use branch::Branch;
-use critical::Figures;
+use masks::Table;
 
-// A critical value, the first set that gives it, and the lowest row whose k-max over that set equals it (document 02, §5).
+// A critical value, the first set that gives it, and the lowest row whose k-max over that set equals it.
 #[derive(Clone, Copy)]
 pub struct Bar {
     pub value: f64,
@@ -29,11 +29,11 @@ pub struct Bar {
 }
 
 // That of one set, with k = 1.
-fn alone(table: &[f64], work: &mut [f64], f: Figures, set: u32) -> Bar
-    requires { CheckedTable table.now f.rows f.columns f.k × (f.rows ≤ length work.old) × (f.k ≤ size (columns_of f.columns set)) × (f.e < f.rows) × (set < 2 ^ f.columns) × (f.k ≡ 1) }
-    ensures { (result ≡ bar_of f.k f.e (rows_of f.rows f.columns table.now) (columns_of f.columns set ∷ []) (critical_value f.k f.e (rows_of f.rows f.columns table.now) (columns_of f.columns set))) × (drop f.rows work.new ≡ drop f.rows work.old) }
+fn alone(table: Table<'_>, work: &mut [f64], e: usize, set: u32) -> Bar
+    requires { (table.rows ≤ length work.old) × (table.k ≤ size (columns_of table.columns set)) × (e < table.rows) × (set < 2 ^ table.columns) × (table.k ≡ 1) }
+    ensures { (result ≡ bar_of table.entry.k e (rows_of table.entry.rows table.entry.columns table.entry.values.now) (columns_of table.entry.columns set ∷ []) (critical_value table.entry.k e (rows_of table.entry.rows table.entry.columns table.entry.values.now) (columns_of table.entry.columns set))) × (drop table.entry.rows work.new ≡ drop table.entry.rows work.old) }
 {
-    let c = critical::critical_value(table, work, f, set);
+    let c = critical::critical_value(table, work, e, set);
     Bar {
         value: c.value,
         set,
@@ -43,18 +43,18 @@ fn alone(table: &[f64], work: &mut [f64], f: Figures, set: u32) -> Bar
 
 // That of the sets of a branch, one or more: the row is looked for once, when the value is known.
 fn of_branch(
-    table: &[f64],
+    table: Table<'_>,
     work: &mut [f64],
     kept: &mut [u16],
     marks: &mut [u32],
-    f: Figures,
+    e: usize,
     b: Branch,
 ) -> Bar
-    requires { CheckedTable table.now f.rows f.columns f.k × (f.rows ≤ length work.old) × (f.e < f.rows) × At f.columns f.k b × (f.rows ≤ length kept.old) × (f.rows ≤ length marks.old) × (0 < length (sets_of f.columns b)) }
-    ensures { (result ≡ bar_of f.k f.e (rows_of f.rows f.columns table.now) (sets_of f.columns b) (best_of (inf true) (map (λ K. critical_value f.k f.e (rows_of f.rows f.columns table.now) K) (sets_of f.columns b)))) × (drop f.rows work.new ≡ drop f.rows work.old) }
+    requires { (table.rows ≤ length work.old) × (e < table.rows) × At table.columns table.k b × (table.rows ≤ length kept.old) × (table.rows ≤ length marks.old) × (0 < length (sets_of table.columns b)) }
+    ensures { (result ≡ bar_of table.entry.k e (rows_of table.entry.rows table.entry.columns table.entry.values.now) (sets_of table.entry.columns b) (best_of (inf true) (map (λ K. critical_value table.entry.k e (rows_of table.entry.rows table.entry.columns table.entry.values.now) K) (sets_of table.entry.columns b)))) × (drop table.entry.rows work.new ≡ drop table.entry.rows work.old) }
 {
-    let h = start::largest(table, work, kept, marks, f, b);
-    let row = critical::lowest_row(table, f, h.set, h.value);
+    let h = start::largest(table, work, kept, marks, e, b);
+    let row = critical::lowest_row(table, h.set, h.value);
     Bar {
         value: h.value,
         set: h.set,
@@ -64,18 +64,18 @@ fn of_branch(
 
 // The critical value of the columns of `set`, with nothing put back.
 pub fn critical_value(
-    table: &[f64],
+    table: Table<'_>,
     work: &mut [f64],
     kept: &mut [u16],
     marks: &mut [u32],
-    f: Figures,
+    e: usize,
     set: u32,
 ) -> Bar
-    requires { CheckedTable table.now f.rows f.columns f.k × (f.rows ≤ length work.old) × (f.e < f.rows) × (set < 2 ^ f.columns) × (f.k ≤ size (columns_of f.columns set)) × (f.rows ≤ length kept.old) × (f.rows ≤ length marks.old) }
-    ensures { (result ≡ bar_of f.k f.e (rows_of f.rows f.columns table.now) (columns_of f.columns set ∷ []) (critical_value f.k f.e (rows_of f.rows f.columns table.now) (columns_of f.columns set))) × (drop f.rows work.new ≡ drop f.rows work.old) }
+    requires { (table.rows ≤ length work.old) × (e < table.rows) × (set < 2 ^ table.columns) × (table.k ≤ size (columns_of table.columns set)) × (table.rows ≤ length kept.old) × (table.rows ≤ length marks.old) }
+    ensures { (result ≡ bar_of table.entry.k e (rows_of table.entry.rows table.entry.columns table.entry.values.now) (columns_of table.entry.columns set ∷ []) (critical_value table.entry.k e (rows_of table.entry.rows table.entry.columns table.entry.values.now) (columns_of table.entry.columns set))) × (drop table.entry.rows work.new ≡ drop table.entry.rows work.old) }
 {
-    if f.k == 1 {
-        return alone(table, work, f, set);
+    if table.k == 1 {
+        return alone(table, work, e, set);
     }
     let b = Branch {
         set,
@@ -83,30 +83,30 @@ pub fn critical_value(
         from: 0,
         left: 0,
     };
-    of_branch(table, work, kept, marks, f, b)
+    of_branch(table, work, kept, marks, e, b)
 }
 
 // The largest critical value of the columns left with k - 1 of the rejected ones put back. With k = 1 nothing is: there is one set.
 pub fn put_back(
-    table: &[f64],
+    table: Table<'_>,
     work: &mut [f64],
     kept: &mut [u16],
     marks: &mut [u32],
-    f: Figures,
+    e: usize,
     remaining: u32,
     rejected: u32,
 ) -> Bar
-    requires { CheckedTable table.now f.rows f.columns f.k × (f.rows ≤ length work.old) × (f.e < f.rows) × Walk f.columns remaining rejected 0 × (f.k ≤ size (columns_of f.columns remaining) + (f.k - 1)) × (f.k - 1 ≤ size (columns_of f.columns rejected)) × (f.rows ≤ length kept.old) × (f.rows ≤ length marks.old) }
-    ensures { (result ≡ bar_of f.k f.e (rows_of f.rows f.columns table.now) (map (λ I. columns_of f.columns remaining ∪ I) (choose (f.k - 1) (columns_of f.columns rejected))) (put_back f.k f.e (rows_of f.rows f.columns table.now) (columns_of f.columns remaining) (columns_of f.columns rejected))) × (drop f.rows work.new ≡ drop f.rows work.old) }
+    requires { (table.rows ≤ length work.old) × (e < table.rows) × Walk table.columns remaining rejected 0 × (table.k ≤ size (columns_of table.columns remaining) + (table.k - 1)) × (table.k - 1 ≤ size (columns_of table.columns rejected)) × (table.rows ≤ length kept.old) × (table.rows ≤ length marks.old) }
+    ensures { (result ≡ bar_of table.entry.k e (rows_of table.entry.rows table.entry.columns table.entry.values.now) (map (λ I. columns_of table.entry.columns remaining ∪ I) (choose (table.entry.k - 1) (columns_of table.entry.columns rejected))) (put_back table.entry.k e (rows_of table.entry.rows table.entry.columns table.entry.values.now) (columns_of table.entry.columns remaining) (columns_of table.entry.columns rejected))) × (drop table.entry.rows work.new ≡ drop table.entry.rows work.old) }
 {
-    if f.k == 1 {
-        return alone(table, work, f, remaining);
+    if table.k == 1 {
+        return alone(table, work, e, remaining);
     }
     let b = Branch {
         set: remaining,
         rest: rejected,
         from: 0,
-        left: f.k - 1,
+        left: table.k - 1,
     };
-    of_branch(table, work, kept, marks, f, b)
+    of_branch(table, work, kept, marks, e, b)
 }

@@ -5,15 +5,14 @@ ghost use Rattle.std.specs.Float.{inf};
 ghost use Rattle.order.specs.Order.{low};
 ghost use Rattle.order.specs.Lists.{rows_of};
 ghost use Rattle.method.specs.Method.{critical_value};
-ghost use Rattle.masks.specs.Internal.{CheckedTable};
 ghost use Rattle.putback.specs.Internal.{At, sets_of, better};
 
 use super::branch::Branch;
 use super::walk::{Best, Held};
 use super::{branch, walk};
-use critical::Figures;
+use masks::{Bound, Table};
 
-// The first set of a branch.
+// The first set of a branch. No index is counted: the branch goes on until nothing is left of it.
 fn first_set(columns: usize, k: usize, b: Branch) -> u32
     requires { At columns k b × (columns ≤ 32) }
     ensures { result < 2 ^ columns }
@@ -34,56 +33,48 @@ fn first_set(columns: usize, k: usize, b: Branch) -> u32
 
 // The best of `value` and the critical values of the branch's sets, and the set that gave it first; `b.set` where none is larger.
 fn climb(
-    table: &[f64],
+    table: Table<'_>,
     work: &mut [f64],
     kept: &mut [u16],
     marks: &mut [u32],
-    f: Figures,
+    e: usize,
     b: Branch,
     value: f64,
 ) -> Best
-    requires { CheckedTable table.now f.rows f.columns f.k × (f.rows ≤ length work.old) × (f.e < f.rows) × At f.columns f.k b × (f.rows ≤ length kept.old) × (f.rows ≤ length marks.old) × T (low value) }
-    ensures { (result ≡ better (λ K. critical_value f.k f.e (rows_of f.rows f.columns table.now) K) (record { value = value; set = b.set }) (sets_of f.columns b)) × (drop f.rows work.new ≡ drop f.rows work.old) }
+    requires { (table.rows ≤ length work.old) × (e < table.rows) × At table.columns table.k b × (table.rows ≤ length kept.old) × (table.rows ≤ length marks.old) × T (low value) }
+    ensures { (result ≡ better (λ K. critical_value table.entry.k e (rows_of table.entry.rows table.entry.columns table.entry.values.now) K) (record { value = value; set = b.set }) (sets_of table.entry.columns b)) × (drop table.entry.rows work.new ≡ drop table.entry.rows work.old) }
 {
-    let n = masks::mark_all(table, kept, marks, f.rows, f.columns, f.k, true, value);
+    let n = masks::mark_all(table, kept, marks, Bound::Above(value));
     let held = Held {
-        value,
-        set: b.set,
+        best: Best { value, set: b.set },
         n,
         risen: false,
     };
     if b.left == 0 {
-        let one = walk::leaf(table, work, kept, marks, f, b.set, held);
-        return Best {
-            value: one.value,
-            set: one.set,
-        };
+        let one = walk::leaf(table, work, kept, marks, e, b.set, held);
+        return one.best;
     }
-    let h = walk::walk(table, work, kept, marks, f, b, held);
-    Best {
-        value: h.value,
-        set: h.set,
-    }
+    let h = walk::walk(table, work, kept, marks, e, b, held);
+    h.best
 }
 
 // The largest critical value of the branch's sets, or minus infinity where there is none, and the set that gave it first.
 pub(crate) fn largest(
-    table: &[f64],
+    table: Table<'_>,
     work: &mut [f64],
     kept: &mut [u16],
     marks: &mut [u32],
-    f: Figures,
+    e: usize,
     b: Branch,
 ) -> Best
-    requires { CheckedTable table.now f.rows f.columns f.k × (f.rows ≤ length work.old) × (f.e < f.rows) × At f.columns f.k b × (f.rows ≤ length kept.old) × (f.rows ≤ length marks.old) }
-    ensures { (result ≡ better (λ K. critical_value f.k f.e (rows_of f.rows f.columns table.now) K) (record { value = inf true; set = b.set }) (sets_of f.columns b)) × (drop f.rows work.new ≡ drop f.rows work.old) }
+    requires { (table.rows ≤ length work.old) × (e < table.rows) × At table.columns table.k b × (table.rows ≤ length kept.old) × (table.rows ≤ length marks.old) }
+    ensures { (result ≡ better (λ K. critical_value table.entry.k e (rows_of table.entry.rows table.entry.columns table.entry.values.now) K) (record { value = inf true; set = b.set }) (sets_of table.entry.columns b)) × (drop table.entry.rows work.new ≡ drop table.entry.rows work.old) }
 {
-    let first = first_set(f.columns, f.k, b);
-    let v = critical::likely_below(table, work, f, first);
-    let r = climb(table, work, kept, marks, f, b, v);
+    let first = first_set(table.columns, table.k, b);
+    let v = critical::likely_below(table, work, e, first);
+    let r = climb(table, work, kept, marks, e, b, v);
     if v < r.value {
         return r;
     }
-    let least = f64::from_bits(0xFFF0_0000_0000_0000);
-    climb(table, work, kept, marks, f, b, least)
+    climb(table, work, kept, marks, e, b, f64::NEG_INFINITY)
 }

@@ -1,11 +1,11 @@
 -- Why ranking column by column makes the balanced table.
 --   finite_number                 a finite value is a number
---   inside, inside-small          entry j of row h stands in the table, and its place is small; sized: the table's length
+--   inside                        entry j of row h stands in the table; sized: the table's length
 --   Ranked, ranked-..             a table, ranked in its first j columns; in all of them it is the balanced one
 use Prim.Native.Nat.{ℕ, zero, suc, ◌+◌, ◌*◌, ◌/◌, ◌%◌, ◌≤◌, ◌<◌}
 use native.Mathlib.Omega.{arith}
 use native.Mathlib.Decide.{ℕ_discrete}
-use native.Mathlib.Nat.{mod-lt, div-add-mod', div-lt_iff_lt-mul, mul-le-mul_right, mul-le-mul_left}
+use native.Mathlib.Nat.{mod-lt, div-add-mod', div-lt_iff_lt-mul}
 use mathlib.Core.Path.{◌≡◌, refl, sym, ap, subst, ◌∙◌}
 use mathlib.Core.Bool.{Bool, true, false, not, cond}
 use mathlib.Core.List.{List, [], ◌∷◌}
@@ -16,7 +16,6 @@ use lib.Arith.{digits_lt, digits_mod}
 use lib.IntN.{pos}
 use lib.Ieee.{Float, nan, inf, fin, is_nan}
 use borrow.Author.Tests.{lt-ltb, le-ltb, eq-eqb, ne_eqb}
-use Rattle.limits.specs.Limits.{table_rows_most, columns_most}
 use Rattle.order.specs.Order.{finite, at_most, with_plus_zero}
 use Rattle.order.specs.Counting.{count, count_below, all}
 use Rattle.order.specs.Lists.{tabulate, rows_of}
@@ -42,11 +41,6 @@ finite_number (fin s (suc m) k) f e = rw e tt
 
 pub inside : (n rows columns h j : ℕ) → n ≡ rows * columns → h < rows → j < columns → h * columns + j < n
 inside n rows columns h j e l m = let d : h * columns + j < rows * columns = digits_lt l m in omega (arith, d)
-
-pub inside-small : (rows columns h j : ℕ) → rows ≤ table_rows_most → columns ≤ columns_most → h < rows → j < columns → h * columns + j < 131072
-inside-small rows columns h j r c l m =
-    let d : h * columns + j < rows * columns = digits_lt l m in
-    omega (arith, d, mul-le-mul_right columns r, mul-le-mul_left table_rows_most c)
 
 -- a table of so many rows as a space has places
 pub sized : {n m rows : ℕ} (l columns : ℕ) → n ≡ m → m ≡ rows * columns → l ≡ rows → n ≡ l * columns

@@ -17,7 +17,6 @@ use lib.Dec.{T, leb, ltb, eqb, eqb_refl}
 use lib.Arith.{digits_div, digits_mod}
 use lib.Ieee.{Float, nan}
 use borrow.Author.Tests.{lt-ltb, le-leb, lt-leb, eq-eqb, ne_eqb}
-use Rattle.limits.specs.Limits.{table_rows_most}
 use Rattle.order.specs.Counting.{bit, count, count_below}
 use Rattle.order.specs.Lists.{tabulate}
 use Rattle.order.specs.Places.{place}
@@ -27,7 +26,7 @@ use Rattle.balance.specs.Balance.{whole}
 use Rattle.sorting.specs.Sorting.{key_of, Sorted}
 use Rattle.sorting.proofs.Moves.{moved-rows, numbered}
 use Rattle.ranking.specs.Internal.{places_in, ranked_by, Put, Ordered}
-use Rattle.ranking.proofs.Ranked.{inside, inside-small}
+use Rattle.ranking.proofs.Ranked.{inside}
 
 -- a test that holds of the first numbers alone
 count-first : (n m : ℕ) (p : ℕ → Bool) → m ≤ n → ((i : ℕ) → i < m → p i ≡ true) → ((i : ℕ) → m ≤ i → i < n → p i ≡ false) → count_below n p ≡ m
@@ -198,12 +197,6 @@ pub record Wander (columns j : ℕ) (places order : List ℕ) (t : List Float) (
 module _ {columns j : ℕ} {places order : List ℕ} {t : List Float} {i above rank : ℕ} {u : List Float} (w : Wander columns j places order t i above rank u) (some : 0 < i) (h : i ≤ length order) where
   pub row-there : get_or order (i - 1) 0 < length places
   row-there = row_lt columns j places order t w.ordered (i - 1) (omega arith)
-
-  pub row-few : get_or order (i - 1) 0 < table_rows_most
-  row-few = omega (arith, row-there, w.ordered.most)
-
-  pub entry-small : get_or order (i - 1) 0 * columns + j < 131072
-  entry-small = inside-small (length places) columns (get_or order (i - 1) 0) j w.ordered.most w.ordered.columns-most row-there w.ordered.within
 
   pub entry-there : get_or order (i - 1) 0 * columns + j < length u
   entry-there = omega (arith, row_inside columns j places order t w.ordered (i - 1) (omega arith), w.walk.even)

@@ -12,7 +12,7 @@ fn place(x: f64) -> u64
     requires { T (finite x) }
     ensures { result ≡ place x }
 {
-    order::bits_place(f64::to_bits(order::plus_zero(x)))
+    order::bits_place(order::plus_zero(x).to_bits())
 }
 
 // A whole number as an f64, exact.
@@ -28,10 +28,8 @@ pub(crate) fn places(table: &[f64], columns: usize, j: usize, out: &mut [u64])
     requires { (length table.now ≡ length out.old * columns) × (j < columns) × (columns ≤ columns_most) × (length out.old ≤ table_rows_most) × T (all finite table.now) }
     ensures { out.new ≡ places_in table.now columns j (length out.old) }
 {
-    let mut h: usize = 0;
-    while h < out.len() {
+    for h in 0..out.len() {
         out[h] = place(table[h * columns + j]);
-        h += 1;
     }
 }
 
@@ -39,10 +37,7 @@ pub(crate) fn places(table: &[f64], columns: usize, j: usize, out: &mut [u64])
 fn rank_of(p: u64, above: u64, rank: usize, standing: usize) -> usize
     ensures { result ≡ cond (eqb p above) rank standing }
 {
-    if p == above {
-        return rank;
-    }
-    standing
+    if p == above { rank } else { standing }
 }
 
 // Each entry of column j becomes the number of places of its column that stand no higher than its own; `order` has all rows in rising order of their places.
@@ -50,12 +45,10 @@ pub(crate) fn put_ranks(table: &mut [f64], columns: usize, j: usize, places: &[u
     requires { Ordered table.old columns j places.now order.now }
     ensures { Put columns j places.now table.old table.new }
 {
-    let mut i = order.len();
-    let mut rank = i;
+    let mut rank = order.len();
     let mut above: u64 = 0;
-    while 0 < i {
-        i -= 1;
-        let h = order[i] as usize;
+    for i in (0..order.len()).rev() {
+        let h = usize::from(order[i]);
         let p = places[h];
         rank = rank_of(p, above, rank, i + 1);
         above = p;

@@ -1,4 +1,4 @@
-// Ranking: each entry of a table becomes its rank in its own column, in place (document 02, §3). Column by column the rows are sorted by the places of
+// Ranking: each entry of a table becomes its rank in its own column, in place. Column by column the rows are sorted by the places of
 // their values in the 64-bit order, and the ranks are handed out from the last row down. What the balanced table is stands in crate balance.
 #![tactic(auto)]
 
@@ -20,11 +20,9 @@ pub fn balance(
     requires { Rankable table.old rows columns × Room rows places.old order.old spare.old }
     ensures { table.new ≡ balanced_table table.old rows columns }
 {
-    let mut j: usize = 0;
-    while j < columns {
+    for j in 0..columns {
         column::places(table, columns, j, places);
         sorting::sort(places, order, spare);
         column::put_ranks(table, columns, j, places, order);
-        j += 1;
     }
 }

@@ -6,6 +6,14 @@
 --   accepted, refused     an accepted answer, and one that is refused by n
 --   answer-map, answer-all     what is read off an answer, and what holds of every answer
 --   judged, judged-last   a condition that is judged before others, and one that is the last
+--   outcome_number, outcome-first      the number of a Result is that of the first condition to hold
+--   outcome-ok, ok-none   an outcome is `Ok` where none holds, and only there
+--   ok-value, passed-ok, value-passed     the value that it is `Ok` of; both, by the number
+--   ok-for, err-for       what the outcome of one value is `Ok` or `Err` of, that of another is
+--   ok_answer, err_answer      what an answer is, by the outcome
+--   ok-append, err-append, append-ok  two lists, one after the other
+--   ok-each               what holds of the value where no condition holds is so of what the outcome is `Ok` of
+--   outcome-answer        what is read off an outcome, where a refusal tells its number alone
 --   answer-append, first-decides, first_passes, both-pass     two lists, one after the other
 use Prim.Native.Nat.{ℕ, zero, suc, ◌≤◌, ◌<◌}
 use native.Mathlib.Omega.{arith}
@@ -14,43 +22,46 @@ use mathlib.Core.Logic.{◌↔◌}
 use mathlib.Core.Bool.{Bool, true, false, cond, false≢true}
 use mathlib.Core.List.{[], ◌∷◌, ◌++◌}
 use lib.ListN.{get_or}
-use Rattle.refusals.specs.Answers.{Refusal, r1, r2, r3, r4, r5, r6, r7, r8, r9, r10, r11, r12, r13, r14, r15, number, Checks, answer, first_refusal, condition, FirstAt, First}
+use Rattle.std.proofs.Common.{Result, Ok, Err, IfOk}
+use Rattle.refusals.specs.Answers.{r1, number, Checks, answer, outcome, refusal_in, value_or, first_refusal, condition, FirstAt, First}
+use Rattle.refusals.specs.declared.refusal.Refusal.{Refusal}
+use Rattle.refusals.specs.declared.refusal.Refusal.TheVariants.{FileLength, WordKind, Level, Sizes, Digits, Repeated, Figure, End, Length, Observed, Value, Buffer, Ended, Spoiled, Shops}
 
 -- ---- refusal numbers
 
 pub number-some : (r : Refusal) → 0 < number r
-number-some r1 = omega arith
-number-some r2 = omega arith
-number-some r3 = omega arith
-number-some r4 = omega arith
-number-some r5 = omega arith
-number-some r6 = omega arith
-number-some r7 = omega arith
-number-some r8 = omega arith
-number-some r9 = omega arith
-number-some r10 = omega arith
-number-some r11 = omega arith
-number-some r12 = omega arith
-number-some r13 = omega arith
-number-some r14 = omega arith
-number-some r15 = omega arith
+number-some FileLength = omega arith
+number-some WordKind = omega arith
+number-some Level = omega arith
+number-some Sizes = omega arith
+number-some Digits = omega arith
+number-some Repeated = omega arith
+number-some Figure = omega arith
+number-some End = omega arith
+number-some Length = omega arith
+number-some Observed = omega arith
+number-some Value = omega arith
+number-some Buffer = omega arith
+number-some Ended = omega arith
+number-some Spoiled = omega arith
+number-some Shops = omega arith
 
 pub number_short : (r : Refusal) → number r ≤ 99
-number_short r1 = omega arith
-number_short r2 = omega arith
-number_short r3 = omega arith
-number_short r4 = omega arith
-number_short r5 = omega arith
-number_short r6 = omega arith
-number_short r7 = omega arith
-number_short r8 = omega arith
-number_short r9 = omega arith
-number_short r10 = omega arith
-number_short r11 = omega arith
-number_short r12 = omega arith
-number_short r13 = omega arith
-number_short r14 = omega arith
-number_short r15 = omega arith
+number_short FileLength = omega arith
+number_short WordKind = omega arith
+number_short Level = omega arith
+number_short Sizes = omega arith
+number_short Digits = omega arith
+number_short Repeated = omega arith
+number_short Figure = omega arith
+number_short End = omega arith
+number_short Length = omega arith
+number_short Observed = omega arith
+number_short Value = omega arith
+number_short Buffer = omega arith
+number_short Ended = omega arith
+number_short Spoiled = omega arith
+number_short Shops = omega arith
 
 -- ---- no condition holds
 
@@ -218,3 +229,87 @@ module _ (s t : Checks) where
 
   pub both-pass : first_refusal (s ++ t) ≡ 0 → (first_refusal s ≡ 0) × (first_refusal t ≡ 0)
   both-pass h = let f = none-append s t (none-holds (s ++ t) h) in (none_first s f.0, none_first t f.1)
+
+-- ---- outcomes
+
+module _ {A : Type 0} where
+  pub outcome_number : (cs : Checks) (a : A) → refusal_in (outcome cs a) ≡ first_refusal cs
+  unfolding first_refusal
+  outcome_number [] a = refl
+  outcome_number (c ∷ cs) a = go c.0 (outcome_number cs a)
+    where
+      go : (b : Bool) → refusal_in (outcome cs a) ≡ first_refusal cs → refusal_in (cond b (Err c.1) (outcome cs a)) ≡ cond b (number c.1) (first_refusal cs)
+      go true on = refl
+      go false on = on
+
+  pub outcome-ok : (cs : Checks) (a : A) → NoneHolds cs → outcome cs a ≡ Ok a
+  outcome-ok [] a h = refl
+  outcome-ok (c ∷ cs) a h = ap (λ (b : Bool). cond b (Err c.1) (outcome cs a)) h.0 ∙ outcome-ok cs a h.1
+
+  pub ok-none : (cs : Checks) (a x : A) → outcome cs a ≡ Ok x → NoneHolds cs
+  ok-none cs a x h = none-holds cs (sym (outcome_number cs a) ∙ ap refusal_in h)
+
+  pub outcome-first : (cs : Checks) (a : A) (r : Refusal) → outcome cs a ≡ Err r → first_refusal cs ≡ number r
+  outcome-first cs a r h = sym (outcome_number cs a) ∙ ap refusal_in h
+
+  pub ok-value : (cs : Checks) (a x : A) → outcome cs a ≡ Ok x → x ≡ a
+  ok-value cs a x h = ap (value_or x) (sym h ∙ outcome-ok cs a (ok-none cs a x h))
+
+  pub passed-ok : (cs : Checks) (a : A) → first_refusal cs ≡ 0 → outcome cs a ≡ Ok a
+  passed-ok cs a h = outcome-ok cs a (none-holds cs h)
+
+  pub value-passed : (cs : Checks) (a d : A) → first_refusal cs ≡ 0 → value_or d (outcome cs a) ≡ a
+  value-passed cs a d h = ap (value_or d) (passed-ok cs a h)
+
+module _ {A B : Type 0} where
+  pub ok-for : (cs : Checks) (a x : A) (b : B) → outcome cs a ≡ Ok x → outcome cs b ≡ Ok b
+  ok-for cs a x b h = outcome-ok cs b (ok-none cs a x h)
+
+  pub err-for : (cs : Checks) (a : A) (b : B) (r : Refusal) → outcome cs a ≡ Err r → outcome cs b ≡ Err r
+  err-for [] a b r h = cc
+  err-for (c ∷ cs) a b r h = go c.0 (err-for cs a b r) h
+    where
+      go : (q : Bool) → (outcome cs a ≡ Err r → outcome cs b ≡ Err r) → cond q (Err c.1) (outcome cs a) ≡ Err r → cond q (Err c.1) (outcome cs b) ≡ Err r
+      go true on h = cc
+      go false on h = on h
+
+  pub ok_answer : (cs : Checks) (a x : A) (done : B) (refusing : ℕ → B) → outcome cs a ≡ Ok x → answer cs done refusing ≡ done
+  ok_answer cs a x done refusing h = answer-none done refusing cs (ok-none cs a x h)
+
+  pub err_answer : (cs : Checks) (a : A) (r : Refusal) (done : B) (refusing : ℕ → B) → outcome cs a ≡ Err r → answer cs done refusing ≡ refusing (number r)
+  err_answer cs a r done refusing h =
+      let e = outcome-first cs a r h in
+      sym (refused done refusing cs (number r) (sym e) (λ z. omega (arith, number-some r)))
+
+  pub ok-append : (s t : Checks) (a x : A) (b : B) → outcome s a ≡ Ok x → outcome (s ++ t) b ≡ outcome t b
+  ok-append [] t a x b h = refl
+  ok-append (c ∷ s) t a x b h = let f = ok-none (c ∷ s) a x h in ap (λ (q : Bool). cond q (Err c.1) (outcome (s ++ t) b)) f.0 ∙ ok-append s t a a b (outcome-ok s a f.1)
+
+  pub err-append : (s t : Checks) (a : A) (b : B) (r : Refusal) → outcome s a ≡ Err r → outcome (s ++ t) b ≡ Err r
+  err-append [] t a b r h = cc
+  err-append (c ∷ s) t a b r h = go c.0 (err-append s t a b r) h
+    where
+      go : (q : Bool) → (outcome s a ≡ Err r → outcome (s ++ t) b ≡ Err r) → cond q (Err c.1) (outcome s a) ≡ Err r → cond q (Err c.1) (outcome (s ++ t) b) ≡ Err r
+      go true on h = cc
+      go false on h = on h
+
+  pub append-ok : (s t : Checks) (a x : A) (b y : B) → outcome s a ≡ Ok x → outcome t b ≡ Ok y → outcome (s ++ t) b ≡ Ok b
+  append-ok s t a x b y h k = ok-append s t a x b h ∙ outcome-ok t b (ok-none t b y k)
+
+-- what is read off an outcome, where a refusal tells its number alone
+pub outcome-answer : {A B : Type 0} (f : Result A Refusal → B) (refusing : ℕ → B) → ((r : Refusal) → f (Err r) ≡ refusing (number r)) → (cs : Checks) (a : A) → f (outcome cs a) ≡ answer cs (f (Ok a)) refusing
+unfolding answer
+outcome-answer f refusing e [] a = refl
+outcome-answer f refusing e (c ∷ cs) a = go c.0 (outcome-answer f refusing e cs a)
+  where
+    go : (b : Bool) → f (outcome cs a) ≡ answer cs (f (Ok a)) refusing → f (cond b (Err c.1) (outcome cs a)) ≡ cond b (refusing (number c.1)) (answer cs (f (Ok a)) refusing)
+    go true on = e c.1
+    go false on = on
+
+pub ok-each : {A : Type 0} (cs : Checks) (a : A) (P : A → Type 0) → (NoneHolds cs → P a) → IfOk (outcome cs a) P
+ok-each [] a P h = h tt
+ok-each (c ∷ cs) a P h = go c.0 (λ z k. h (z, k)) refl (λ k. ok-each cs a P k)
+  where
+    go : (b : Bool) → (c.0 ≡ false → NoneHolds cs → P a) → c.0 ≡ b → ((NoneHolds cs → P a) → IfOk (outcome cs a) P) → IfOk (cond b (Err c.1) (outcome cs a)) P
+    go true h e on = tt
+    go false h e on = on (h e)

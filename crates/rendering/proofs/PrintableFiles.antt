@@ -21,8 +21,8 @@ use Rattle.order.specs.Counting.{all}
 use Rattle.order.proofs.Booleans.{and_both, and_left, and_right}
 use Rattle.order.proofs.Counts.{all_get_d}
 use Rattle.order.proofs.Lists.{all-tabulate}
-use Rattle.refusals.specs.Answers.{first_refusal}
-use Rattle.refusals.proofs.Answers.{answer-map}
+use Rattle.std.proofs.Common.{IfOk}
+use Rattle.refusals.proofs.Answers.{none_first, ok-each}
 use Rattle.runs.specs.Stepdown.{Outcome, steps_of, full_run}
 use Rattle.runs.specs.FullRuns.{no_record, accepted_run}
 use Rattle.runs.specs.declared.Record.{Record}
@@ -37,21 +37,18 @@ use Rattle.trial.proofs.Tables.{row_of-all, trial_rows-length}
 use Rattle.words.specs.Words.{words_of}
 use Rattle.trialfile.specs.Files.{trial_of, file_checks, file_refusal}
 use Rattle.trialfile.proofs.Taken.{read-accepted}
-use Rattle.trialfile.proofs.Inputs.{digits-few}
 use Rattle.balance.specs.Balance.{balanced_rows}
 use Rattle.balance.proofs.Balanced.{balanced-all}
 use Rattle.trialrun.specs.TrialRuns.{trial_start, trial_run}
 use Rattle.trialrun.proofs.Bars.{plain-offer}
 use Rattle.trialbalance.specs.TrialBalance.{trial_balanced_run}
 use Rattle.trialbalance.proofs.Calls.{balanced-offer}
-use Rattle.trialrun.specs.FileRuns.{refused_file, accepted_by, file_by}
-use Rattle.trialrun.specs.declared.FileRun.{FileRun}
+use Rattle.trialrun.specs.FileRuns.{accepted_by, file_by}
 use Rattle.text.specs.Text.{cents}
 use Rattle.rendering.specs.Reports.{record_at}
 use Rattle.rendering.specs.Internal.{Printable, PrintableFile}
 use Rattle.text.proofs.Cents.{cents-exact}
 use Rattle.rendering.proofs.Values.{records-hold}
-use Rattle.refusals.proofs.Answers as answers
 
 -- ---- critical values are whole numbers
 
@@ -139,16 +136,11 @@ printed-ranks = cents-by trial_balanced_run balanced-printable
 
 module _ (run : Trial → Outcome) (p : PrintableRun run) where
   pub trial-printable : (t : Trial) → trial_refusal t ≡ 0 → PrintableFile (accepted_by run t)
-  trial-printable t h = let acc = accepted t h in record { offers-most = acc.offers-most; digits-few = digits-few t acc; run-printable = p t h }
+  trial-printable t h = let acc = accepted t h in let q = p t h in record {
+    offers-most = acc.offers-most;
+    run-printable = record { few-steps = q.few-steps; whole = q.whole; held = q.held; named = λ i l. let o = q.named i l in (o.0, omega (arith, o.1, acc.offers-most)) };
+  }
 
-  module _ (bytes : List ℕ) where
-    -- the number in the answer is the file's
-    run-number : (file_by run bytes).run.refusal ≡ file_refusal bytes
-    unfolding file_refusal first_refusal accepted_run
-    run-number = answer-map (λ (f : FileRun). f.run.refusal) (file_checks bytes) (accepted_by run (trial_of (words_of bytes))) refused_file
-
-    pub printable-file : (f : FileRun) → f ≡ file_by run bytes → f.run.refusal ≡ 0 → PrintableFile f
-    unfolding file_refusal
-    printable-file f e h =
-        let n : f.run.refusal ≡ file_refusal bytes = ap (λ (g : FileRun). g.run.refusal) e ∙ run-number in
-        subst PrintableFile (answers.accepted (accepted_by run (trial_of (words_of bytes))) refused_file (file_checks bytes) f.run.refusal n h ∙ sym e) (trial-printable (trial_of (words_of bytes)) (read-accepted bytes (sym n ∙ h)))
+  pub printable-file : (bytes : List ℕ) → IfOk (file_by run bytes) PrintableFile
+  unfolding file_refusal
+  printable-file bytes = ok-each (file_checks bytes) (accepted_by run (trial_of (words_of bytes))) PrintableFile (λ h. trial-printable (trial_of (words_of bytes)) (read-accepted bytes (none_first (file_checks bytes) h)))

@@ -1,18 +1,21 @@
--- Laws of a report's lines.
---   verdict-is    the word and the step of a verdict whose case is known
---   offer-is      an offer's line, with its verdict's word and step as one part
-use Prim.Native.Nat.{ℕ}
-use mathlib.Core.Path.{◌≡◌, sym, ap}
-use mathlib.Core.List.{List, [], ◌∷◌, ◌++◌, append_assoc}
-use Rattle.runs.specs.declared.Verdict.{Verdict}
-use Rattle.text.specs.Ascii.{ascii}
-use Rattle.text.specs.Text.{printed, decimal, after_first}
-use Rattle.rendering.specs.Reports.{verdict_word, verdict_step, offer_line}
+-- Laws of a report's step lines, for a loop over the records of the run's steps.
+--   step-there       the place is one of a step
+--   step_line-is     the line of the record there is the step's
+use Prim.Native.Nat.{ℕ, ◌-◌, ◌<◌}
+use native.Mathlib.Omega.{arith}
+use mathlib.Core.Path.{◌≡◌, ap}
+use lib.ListN.{length, get_or, take}
+use lib.Ieee.{nan}
+use lib.Seq.{get_or-take}
+use Rattle.std.proofs.lemmas.List.{length-take}
+use Rattle.runs.specs.declared.Record.{Record}
+use Rattle.runs.specs.declared.FullRun.{FullRun}
+use Rattle.trial.specs.declared.Labels.{Labels}
+use Rattle.rendering.specs.Reports.{code_at, step_line, step_line_at}
 
-pub verdict-is : (last : ℕ) {v u : Verdict} → v ≡ u → ascii (verdict_word u) ++ (ascii " " ++ decimal (verdict_step last u)) ≡ ascii (verdict_word v) ++ (ascii " " ++ decimal (verdict_step last v))
-verdict-is last e = ap (λ (x : Verdict). ascii (verdict_word x) ++ (ascii " " ++ decimal (verdict_step last x))) (sym e)
+module _ (l : Labels) (r : FullRun) (i : ℕ) (h : i < length (take r.steps r.records)) where
+  pub step-there : i < r.steps
+  step-there = omega (arith, length-take r.steps r.records)
 
-pub offer-is : (code digits : ℕ) (v : Verdict) (last n : ℕ)
-    → printed digits code ++ (ascii " " ++ ((ascii (verdict_word v) ++ (ascii " " ++ decimal (verdict_step last v))) ++ after_first (decimal n ∷ []))) ≡ offer_line (printed digits code) v last n
-offer-is code digits v last n =
-    ap (λ (ys : List ℕ). printed digits code ++ (ascii " " ++ ys)) (append_assoc (ascii (verdict_word v)) (ascii " " ++ decimal (verdict_step last v)) (after_first (decimal n ∷ [])))
+  pub step_line-is : let m = get_or (take r.steps r.records) i (record { step = 0; critical = nan; row = 0; offer = 0 }) in step_line m (code_at l (m.offer - 1)) ≡ step_line_at l r i
+  step_line-is = ap (λ (m : Record). step_line m (code_at l (m.offer - 1))) (get_or-take r.steps r.records i (record { step = 0; critical = nan; row = 0; offer = 0 }) step-there)

@@ -1,16 +1,16 @@
--- The report's text (document 01, "Report and C call"). Definitions only.
+-- The report's text. Definitions only.
 --   head_line s r          figures of an offer, offers and k of a shape, e and M of a full run
 --   code_at l i             the printed code of offer i, from 0
---   step_line m code       a step's number and critical value, the row that set it and the printed code of the offer that did (document 02, §5)
+--   step_line m code       a step's number and critical value, the row that set it and the printed code of the offer that did
 --   verdict_word v         the word for a verdict
---   verdict_step last v    the step that rejected, or the last step; 0 for an offer that is set aside (document 02, §4)
+--   verdict_step last v    the step that rejected, or the last step; 0 for an offer that is set aside
 --   offer_line ..          an offer: printed code, verdict, step, count
 --   record_at, decision_at  the record of step i and the verdict of offer i, both from 0
 --   step_line_at, offer_line_at  their lines
 --   trial_text t r         the report of a trial with the full run r
 --   report_by run bytes    all that is printed for a file, by a full run of its trial: the report of that run, or the file's refusal
 --   report_of bytes        the report: by the full run of the trial
---   balanced_report_of bytes   the balanced report (document 02, §3): by its balanced full run, whose critical values are ranks
+--   balanced_report_of bytes   the balanced report: by its balanced full run, whose critical values are ranks
 use Rattle.std.specs.Prelude.{ℕ, ◌-◌, List, [], ◌∷◌, ◌++◌, get_or}
 use Prim.Native.String.{String}
 use Rattle.std.specs.Float.{nan}
@@ -21,7 +21,6 @@ use Rattle.runs.specs.declared.Record.{Record}
 use Rattle.runs.specs.declared.Verdict.{Verdict}
 use Rattle.runs.specs.declared.Verdict.TheVariants.{Rejected, Kept, Aside}
 use Rattle.runs.specs.declared.FullRun.{FullRun}
-use Rattle.runs.specs.declared.Decision.{Decision}
 use Rattle.verdicts.specs.Verdicts.{rejected_count}
 use Rattle.trial.specs.Designs.{units_of}
 use Rattle.trial.specs.declared.Labels.{Labels}
@@ -60,14 +59,14 @@ offer_line code v last n = line code (ascii (verdict_word v) ∷ decimal (verdic
 abbrev pub record_at : FullRun → ℕ → Record
 record_at r i = get_or r.records i (record { step = 0; critical = nan; row = 0; offer = 0 })
 
-abbrev pub decision_at : FullRun → ℕ → Decision
-decision_at r i = get_or r.decisions i (record { verdict = Rejected 0 nan })
+abbrev pub decision_at : FullRun → ℕ → Verdict
+decision_at r i = get_or r.verdicts i (Rejected 0 nan)
 
 abbrev pub step_line_at : Labels → FullRun → ℕ → List ℕ
 step_line_at l r i = step_line (record_at r i) (code_at l ((record_at r i).offer - 1))
 
 abbrev pub offer_line_at : Labels → FullRun → ℕ → List ℕ
-offer_line_at l r i = offer_line (code_at l i) (decision_at r i).verdict r.steps (get_or r.counts i 0)
+offer_line_at l r i = offer_line (code_at l i) (decision_at r i) r.steps (get_or r.counts i 0)
 
 unfoldable pub trial_text : Trial → FullRun → List ℕ
 unfolding units_of lines_to rejected_count
@@ -75,7 +74,7 @@ trial_text t r =
     head_line t.shape r
     ++ (lines_to r.steps (step_line_at t.labels r)
     ++ (lines_to t.shape.offers (offer_line_at t.labels r)
-    ++ line (ascii "end") (decimal (rejected_count t.shape.offers r.decisions) ∷ [])))
+    ++ line (ascii "end") (decimal (rejected_count t.shape.offers r.verdicts) ∷ [])))
 
 unfoldable pub report_by : (Trial → Outcome) → List ℕ → List ℕ
 unfolding answer file_checks trial_of words_of accepted_run trial_text

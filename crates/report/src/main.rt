@@ -1,26 +1,36 @@
 // The report program: a trial file on standard input, its report or its refusal on standard output, and nothing else.
 #![tactic(auto)]
 
+ghost use Rattle.std.specs.Prelude.{IfErr, IfSome, OnOk};
+ghost use Rattle.std.specs.Io.KnownBytes.{Appends};
 ghost use Rattle.rendering.specs.Reports.{report_of};
-ghost use Rattle.streams.specs.Programs.{Prints};
+ghost use Rattle.streams.specs.Programs.{Silent};
 
 use limits::{INPUT_ROOM, LONGEST_REPORT};
-use streams::Input;
+use std::io;
+use std::io::{Read, Write};
+use streams::{Failure, Tell};
 
-// The one place that writes to standard output. What was read is handed over for the contract alone: the text has to be the report of the whole input.
-fn print(rt: &(impl Print + Eprint), file: &[u8], input: Input, text: &[u8])
-    requires { Prints report_of file.now input text.now }
+struct Report;
+
+impl Tell for Report {
+    ghost told = { report_of };
+
+    fn tell(&self, file: &[u8], out: &mut [u8]) -> usize {
+        rendering::report(file, out).unwrap_or(0)
+    }
+}
+
+// The report of the whole input, from any reader to any writer; nothing where a read failed.
+fn run<R: Read, W: Write>(reader: &mut R, writer: &mut W) -> Result<(), Failure>
+    ensures told { OnOk result (IfSome (R.remaining reader.old) (λ input. Appends (W.contents writer.old) (W.contents writer.new) (report_of input))) }
+    ensures silent { IfErr result (λ failure. Silent failure (W.contents writer.old) (W.contents writer.new)) }
 {
-    streams::write_output(rt, text);
+    let mut file = [0u8; INPUT_ROOM];
+    let mut text = [0u8; LONGEST_REPORT];
+    streams::run(&Report, reader, writer, &mut file, &mut text)
 }
 
 fn main(rt: HostRuntime) {
-    let mut file = [0u8; INPUT_ROOM];
-    let mut text = [0u8; LONGEST_REPORT];
-    let input = streams::read_input(&rt, &mut file);
-    if input.whole {
-        let n = input.length;
-        let length = rendering::report(&file[..n], &mut text).length;
-        print(&rt, &file, input, &text[..length]);
-    }
+    streams::tell_failure(&rt, run(&mut rt.reader(), &mut io::writer(&rt)));
 }

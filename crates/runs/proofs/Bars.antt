@@ -1,4 +1,4 @@
--- Who set the critical value of a step (document 02, §5).
+-- Who set the critical value of a step.
 --   Ready X r        what holds before each step: k or more columns are live, and some are left
 --   ready-first, ready-next     before step 1, and where a step has not ended the run
 --   bar-inside, bar-wide, bar-length, bar-gives     the set that is told: of live columns, k of them or more, and its critical value is that of the step

@@ -1,4 +1,4 @@
--- The starred examples of document 01 hold, all of them, and those of document 02, §5: the checker computes what is asked, one example after the other.
+-- The worked examples hold, all of them: the checker computes what is asked, one example after the other.
 use mathlib.Core.Path.{◌≡◌, refl}
 use mathlib.Core.List.{List, [], ◌∷◌, map}
 use lib.Ieee.{lt, le, of_int}
@@ -20,7 +20,7 @@ pub all-bars : map (λ x. x.asked) bars ≡ map (λ x. x.told) bars
 unfolding bars lt le
 all-bars = refl also refl also refl also refl also done
 
--- the tables as document 01 gives them: P row by row, and W's sums, row g exchanging the pairs whose bit of g is 1
+-- the tables as whole numbers: P row by row, and W's sums, row g exchanging the pairs whose bit of g is 1
 pub p-values : P ≡ ⁺ 9 ∷ ⁺ 8 ∷ ⁺ 3 ∷ ⁺ 4 ∷ ⁺ 1 ∷ ⁺ 2 ∷ ⁺ 0 ∷ ⁺ 4 ∷ ⁺ 5 ∷ ⁺ 1 ∷ ⁺ 0 ∷ ⁺ 1 ∷ []
 unfolding of_int
 p-values = refl

@@ -5,7 +5,7 @@ pub mod Termination
 pub mod Descent
 pub mod Bars
 pub mod RejectedSets
-pub mod Told
+pub mod ToldColumns
 pub mod Without
 pub mod RejectedVerdicts
 pub mod Loosening

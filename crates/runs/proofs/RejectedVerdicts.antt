@@ -27,7 +27,7 @@ use Rattle.runs.proofs.Steps.{seen_row, at-column, both-length, next-rejected}
 use Rattle.runs.proofs.Start.{first-empty}
 use Rattle.runs.proofs.Termination.{last_state}
 use Rattle.runs.proofs.RejectedSets.{step_rejects, rejected_from, rejected_set_at, rejected-live}
-use Rattle.runs.proofs.Told.{verdicts-length, rejected-told}
+use Rattle.runs.proofs.ToldColumns.{verdicts-length, rejected-told}
 
 -- ---- from step to step
 

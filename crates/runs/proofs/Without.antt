@@ -36,7 +36,7 @@ use Rattle.runs.specs.declared.Verdict.TheVariants.{Rejected, Kept}
 use Rattle.runs.proofs.Steps.{seen_row, at-column, critical-first, seen-length, newly-is, over-left, both-length, next-rejected}
 use Rattle.runs.proofs.Start.{full_size}
 use Rattle.runs.proofs.Bars.{Ready, ready-next, ready-first, bar-inside, row_below, row-sound}
-use Rattle.runs.proofs.Told.{verdicts-length, counts-length, verdict-live, count-live}
+use Rattle.runs.proofs.ToldColumns.{verdicts-length, counts-length, verdict-live, count-live}
 
 -- a record whose offer is counted among the columns of L, as one whose offer is counted among all columns
 abbrev pub counted : Columns → Record → Record

@@ -1,10 +1,10 @@
--- The starred examples of document 01, and some of document 02, §5: a table of what is asked and what is told. Definitions only; proofs/Examples.antt states that they agree.
+-- Worked examples of full runs, and some of who set a critical value: a table of what is asked and what is told. Definitions only; proofs/Examples.antt states that they agree.
 --   ⁺ n, ⁻ n, step        how values and records are written
 --   Answer, Example       what can be asked; what is asked and what is told
---   W, P                  document 01's tables, row after row
+--   W, P                  two tables, row after row
 --   whole, of_table, of_p, any_rejected  what is asked: a full run, that of a table, c(K) of P, whether any column is rejected
 --   examples              all of them, one after the other
---   bars                  who set a critical value, where several could have (document 02, §5)
+--   bars                  who set a critical value, where several could have
 -- W's table stands here row by row; crate trialrun shows that it is the table of the trial W.
 use Rattle.std.specs.Prelude.{ℕ, Bool, true, false, List, [], ◌∷◌, pos, neg_ℤ, Float}
 use Rattle.std.specs.Float.{fin, binary64}
@@ -103,7 +103,7 @@ examples =
     ∷ record { asked = of_table (plus_zero ∷ fin true 0 (pos 0) ∷ []) 2 1 1 1 2; told = run 1 (Kept plus_zero ∷ []) (2 ∷ []) (step 1 plus_zero 0 1 ∷ []) }
     ∷ []
 
--- ---- who set the bar (document 02, §5): each record ends in the row, from 0, and the offer, from 1
+-- ---- who set the bar: each record ends in the row, from 0, and the offer, from 1
 
 unfoldable pub bars : List Example
 unfolding of_table table_run of_int

@@ -1,4 +1,4 @@
--- Who set a critical value, as facts that are checked without looking for it (document 02, §5). Definitions only.
+-- Who set a critical value, as facts that are checked without looking for it. Definitions only.
 --   SetBy k e X Ks m     what a record tells is true of the sets Ks that its step looked at, in their order: a set of them gives the critical value, those before it
 --                        a smaller one, and none a larger one; over that set the row's k-max equals it, and no lower row's does; the offer, counted from 1, is in the set, its value in that row equals it,
 --                        and no lower one of the set has that

@@ -5,7 +5,7 @@
 --   step_critical k e X live R steps   the critical value after so many steps, with R rejected
 --   critical_of X s                    the critical value of the next step
 --   step_sets k live R steps           the sets that a step looks at, in the order of the walk
---   bar_set_of X s                     the first of those of the next step whose critical value is that of the step (document 02, §5)
+--   bar_set_of X s                     the first of those of the next step whose critical value is that of the step
 --   bar_row_of X s, bar_offer_of X s   the lowest row whose k-max over that set equals it, from 0; that row's offer, from 1
 --   newly_rejected X s                 the columns that the next step rejects
 --   ends_after k live new R            whether a step that rejected `new`, so that R is rejected, ends the run

@@ -3,7 +3,9 @@
 #![tactic(auto)]
 
 ghost use Rattle.std.specs.Prelude.{◌≡◌};
-ghost use Rattle.runs.specs.FullRuns.{refused_run};
+ghost use Rattle.runs.specs.FullRuns.{blank_run, told_run};
+
+use refusals::Refusal;
 
 // How far the method has got on a table, at e and over the live columns: bit j of `live` says that column j takes part,
 // bit j of `rejected` that it is rejected.
@@ -20,7 +22,7 @@ pub struct State {
     pub ended: bool,
 }
 
-// What a step leaves behind (document 01: record): its number, from 1, its critical value, and who set it (document 02, §5): the lowest row
+// What a step leaves behind: its number, from 1, its critical value, and who set it: the lowest row
 // whose k-max equals it, from 0, and that row's offer, by its position in the trial or table, from 1.
 #[derive(Clone, Copy)]
 pub struct Record {
@@ -37,8 +39,7 @@ pub struct Step {
     pub logged: Record,
 }
 
-// A hypothesis (document 01: offer) is rejected, with the step and its critical value, or kept, with the last critical value; one that is not live is
-// set aside (document 02, §4).
+// A hypothesis (an offer) is rejected, with the step and its critical value, or kept, with the last critical value; one that is not live is set aside.
 #[derive(Clone, Copy)]
 pub enum Verdict {
     Rejected(usize, f64),
@@ -46,29 +47,22 @@ pub enum Verdict {
     Aside,
 }
 
-// A verdict in a struct of its own: an array of enums is no field.
-#[derive(Clone, Copy)]
-pub struct Decision {
-    pub verdict: Verdict,
-}
-
-// A full run: 0 or the refusal number; M, the rows of its table; e; how many steps; a record for each step; a verdict and a
-// count for each column, and the count 0 for one that is set aside. Places that the steps and columns don't use are blank, and a refused run is blank
-// but for its number.
+// A full run: M, the rows of its table; e; how many steps; a record for each step; a verdict and a count for each column, and the
+// count 0 for one that is set aside. Places that the steps and columns don't use are blank.
+// Arrays of 32 places, and how many steps fill them: no heap, fixed memory.
 #[derive(Clone, Copy)]
 pub struct FullRun {
-    pub refusal: u32,
     pub rows: usize,
     pub e: usize,
     pub steps: usize,
     pub records: [Record; 32],
-    pub decisions: [Decision; 32],
+    pub verdicts: [Verdict; 32],
     pub counts: [usize; 32],
 }
 
-// What a full run answers that is refused by a number: blank but for it.
-pub fn refused(number: u32) -> FullRun
-    ensures { result ≡ refused_run number }
+// A run of which nothing is told.
+fn blank() -> FullRun
+    ensures { result ≡ blank_run }
 {
     let r = Record {
         step: 0,
@@ -76,18 +70,22 @@ pub fn refused(number: u32) -> FullRun
         row: 0,
         offer: 0,
     };
-    let d = Decision {
-        verdict: Verdict::Kept(0.0),
-    };
-    let records = [r; 32];
-    let decisions = [d; 32];
     FullRun {
-        refusal: number,
         rows: 0,
         e: 0,
         steps: 0,
-        records,
-        decisions,
+        records: [r; 32],
+        verdicts: [Verdict::Kept(0.0); 32],
         counts: [0usize; 32],
+    }
+}
+
+// An answer as it is told: 0 and the run, or the number of the refusal and a blank run.
+pub fn told(answer: Result<FullRun, Refusal>) -> (u32, FullRun)
+    ensures { result ≡ told_run answer }
+{
+    match answer {
+        Ok(run) => (0, run),
+        Err(refusal) => (u32::from(refusal), blank()),
     }
 }

@@ -1,6 +1,5 @@
 -- What the steps of the selection give.
 --   bits-reach, rest-fits, cleared-is          how many bits a number has, and a number with its lowest bits zero
---   past_end, past_next                        the value at the first place after some
 --   smaller-number                             what is smaller than anything is a number
 --   gathered-..                                the bits that some patterns have set, and those that all have
 --   none-held, free-most, none_free            before any pass; at most 64 bits are free; after the last pass
@@ -27,7 +26,7 @@ use Rattle.order.specs.Places.{place, bits_place, value_at}
 use Rattle.order.proofs.Booleans.{never, true-T, and_left, and_right, and_both, if-holds}
 use Rattle.order.proofs.Counts.{all-le, all_both, count_same}
 use Rattle.order.proofs.Places.{place-fits}
-use Rattle.order.proofs.ValueAt.{below-value_at, value_at-high}
+use Rattle.order.proofs.ValueAt.{below-value_at}
 use Rattle.order.proofs.SharedBits.{place-shares}
 use Rattle.order.proofs.Powers.{top-room}
 use Rattle.order.proofs.Rows.{Finite}
@@ -50,18 +49,6 @@ rest-fits p o w e = rw e (omega (arith, split p o))
 
 pub cleared-is : (p o w : ℕ) → w ≡ 2 ^ o → p - p % w ≡ top_bits o p
 cleared-is p o w e = rw e (omega (arith, split p o))
-
--- ---- the first place after those that are left
-
-pub past_end : (p o w l : ℕ) → w ≡ 2 ^ o → l ≡ p + (w - 1) → l ≡ 2 ^ 64 - 1 → inf false ≡ value_at (p + 2 ^ o)
-unfolding place bits_place to_bits with_plus_zero
-past_end p o w l e f g = value_at-high (p + 2 ^ o) (omega (arith, pow_pos o))
-
-pub past_next : (p o w l : ℕ) → w ≡ 2 ^ o → l ≡ p + (w - 1) → {v : Float} → v ≡ value_at (l + 1) → v ≡ value_at (p + 2 ^ o)
-past_next p o w l e f {v} q = q ∙ ap value_at same
-  where
-    same : l + 1 ≡ p + 2 ^ o
-    same = omega (arith, pow_pos o)
 
 -- ---- the patterns of the values left
 

@@ -5,16 +5,15 @@ ghost use Rattle.order.specs.Counting.{count};
 ghost use Rattle.select.specs.Internal.{chosen, any_bits, every_bits};
 
 // How many values are smaller than t.
+#[tactic(auto, using(order::proofs::Slices::counts))]
 pub(crate) fn count_below(xs: &[f64], t: f64) -> usize
     ensures { result ≡ count (λ x. smaller x t) xs.now }
 {
     let mut n: usize = 0;
-    let mut i: usize = 0;
-    while i < xs.len() {
-        if xs[i] < t {
+    for x in xs {
+        if *x < t {
             n += 1;
         }
-        i += 1;
     }
     n
 }
@@ -23,13 +22,11 @@ pub(crate) fn count_below(xs: &[f64], t: f64) -> usize
 fn pattern(lo: f64, hi: f64, x: f64, none: u64) -> u64
     ensures { result ≡ chosen lo hi x none }
 {
-    if x < lo {
-        return none;
+    if !(x < lo) && x < hi {
+        order::plus_zero(x).to_bits()
+    } else {
+        none
     }
-    if x < hi {
-        return f64::to_bits(order::plus_zero(x));
-    }
-    none
 }
 
 // How many values are smaller than a bound; and, of the patterns between two others, the bits that are set in some and those that are set in all.
@@ -41,21 +38,19 @@ pub struct Gathered {
 }
 
 // The values smaller than t, and the patterns from lo to below hi.
+#[tactic(auto, using(order::proofs::Slices::counts))]
 pub(crate) fn gather(xs: &[f64], t: f64, lo: f64, hi: f64) -> Gathered
     ensures { (result.below ≡ count (λ x. smaller x t) xs.now) × (result.any ≡ any_bits lo hi xs.now) × (result.every ≡ every_bits lo hi xs.now) }
 {
     let mut below: usize = 0;
     let mut any: u64 = 0;
-    let mut every: u64 = 0xFFFF_FFFF_FFFF_FFFF;
-    let mut i: usize = 0;
-    while i < xs.len() {
-        let x = xs[i];
-        any = any | pattern(lo, hi, x, 0);
-        every = every & pattern(lo, hi, x, 0xFFFF_FFFF_FFFF_FFFF);
+    let mut every: u64 = u64::MAX;
+    for &x in xs {
+        any |= pattern(lo, hi, x, 0);
+        every &= pattern(lo, hi, x, u64::MAX);
         if x < t {
             below += 1;
         }
-        i += 1;
     }
     Gathered { below, any, every }
 }

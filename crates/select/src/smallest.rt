@@ -16,14 +16,14 @@ use super::scans;
 #[derive(Clone, Copy)]
 pub struct Held {
     pub place: u64,
-    pub free: usize,
+    pub free: u32,
     pub under: usize,
     pub upto: usize,
     pub unsplit: bool,
 }
 
 // Bit j alone.
-fn bit(j: usize) -> u64
+fn bit(j: u32) -> u64
     requires { j < 64 }
     ensures { result ≡ 2 ^ j }
 {
@@ -31,14 +31,14 @@ fn bit(j: usize) -> u64
 }
 
 // How many of the lowest bits are enough for d.
-fn bits_of(d: u64) -> usize
+fn bits_of(d: u64) -> u32
     ensures { (result ≤ 64) × (d < 2 ^ result) }
 {
-    64 - u64::leading_zeros(d) as usize
+    u64::BITS - d.leading_zeros()
 }
 
 // p with its lowest `free` bits zero.
-fn cleared(p: u64, free: usize) -> u64
+fn cleared(p: u64, free: u32) -> u64
     requires { free < 64 }
     ensures { result ≡ top_bits free p }
 {
@@ -46,97 +46,103 @@ fn cleared(p: u64, free: usize) -> u64
 }
 
 // The value at the first place after the 2^o from p on.
-fn value_past(p: u64, o: usize) -> f64
+fn value_past(p: u64, o: u32) -> f64
     requires { (o < 64) × (p + 2 ^ o ≤ 2 ^ 64) }
     ensures { result ≡ value_at (p + 2 ^ o) }
 {
-    let last = p + (bit(o) - 1);
-    if last == 0xFFFF_FFFF_FFFF_FFFF {
-        return f64::from_bits(0x7FF0_0000_0000_0000);
-    }
-    order::value_at(last + 1)
-}
-
-// One bit more, `middle` being the place with that bit set: it is set where n, the number of values below it, is less than m.
-fn one_bit(h: Held, middle: u64, n: usize, m: usize) -> Held
-    requires { 0 < h.free }
-    ensures { (result.place ≡ cond (ltb n m) middle h.place) × (result.free ≡ h.free - 1) }
-{
-    let free = h.free - 1;
-    if n < m {
-        return Held {
-            place: middle,
-            free,
-            under: n,
-            upto: h.upto,
-            unsplit: n == h.under,
-        };
-    }
-    Held {
-        place: h.place,
-        free,
-        under: h.under,
-        upto: n,
-        unsplit: n == h.upto,
+    match p.checked_add(bit(o)) {
+        Some(end) => order::value_at(end),
+        None => f64::INFINITY,
     }
 }
 
-// One pass, one bit more.
-fn pass(xs: &[f64], m: usize, h: Held) -> Held
-    requires { T (all finite xs.now) × (0 < m) × (m ≤ length xs.now) × Holds m xs.now h × (0 < h.free) }
-    ensures { (result.place ≡ passed m xs.now (h.free - 1) h.place) × (result.free ≡ h.free - 1) × Holds m xs.now result }
-{
-    let middle = h.place + bit(h.free - 1);
-    let n = scans::count_below(xs, order::value_at(middle));
-    one_bit(h, middle, n, m)
-}
+impl Held {
+    ghost use Rattle.std.specs.Prelude.{◌≡◌, cond, ◌-◌, ◌<◌, ltb};
 
-// One pass, and all bits that the values left share: free stay those from the highest in which some of them differ, and none where all are equal.
-// Where they share none, it is one bit more.
-fn gathering_pass(xs: &[f64], m: usize, h: Held) -> Held
-    requires { T (all finite xs.now) × (0 < m) × (m ≤ length xs.now) × Holds m xs.now h × (0 < h.free) }
-    ensures { (result.free < h.free) × Holds m xs.now result }
-{
-    let o = h.free - 1;
-    let middle = h.place + bit(o);
-    let left = scans::gather(
-        xs,
-        order::value_at(middle),
-        order::value_at(h.place),
-        value_past(middle, o),
-    );
-    let free = bits_of(left.any ^ left.every);
-    if free < h.free {
-        let place = cleared(order::bits_place(left.any), free);
-        return Held {
-            place,
-            free,
-            under: h.under,
-            upto: h.upto,
-            unsplit: false,
-        };
-    }
-    one_bit(h, middle, left.below, m)
-}
-
-// Whether the next pass is to gather, which takes as long as some three others: once the sign is settled; where one value is left; and, where the last
-// pass told no values apart, at every sixth bit. Not for the last bit, which any pass settles. Either answer is right.
-fn worth_gathering(h: Held) -> bool {
-    if h.free < 2 {
-        return false;
-    }
-    if h.free == 63 {
-        return true;
-    }
-    if h.under < h.upto {
-        if h.upto - h.under == 1 {
-            return true;
+    // One bit more, `middle` being the place with that bit set: it is set where n, the number of values below it, is less than m.
+    fn one_bit(self, middle: u64, n: usize, m: usize) -> Held
+        requires { 0 < self.free }
+        ensures { (result.place ≡ cond (ltb n m) middle self.place) × (result.free ≡ self.free - 1) }
+    {
+        let free = self.free - 1;
+        if n < m {
+            Held {
+                place: middle,
+                free,
+                under: n,
+                unsplit: n == self.under,
+                ..self
+            }
+        } else {
+            Held {
+                free,
+                upto: n,
+                unsplit: n == self.upto,
+                ..self
+            }
         }
     }
-    if h.unsplit {
-        return h.free % 6 == 0;
+
+    // Whether the next pass is to gather, which takes as long as some three others: once the sign is settled; where one value is left; and, where the last
+    // pass told no values apart, at every sixth bit. Not for the last bit, which any pass settles. Either answer is right.
+    fn worth_gathering(self) -> bool {
+        2 <= self.free
+            && (self.free == 63
+                || self.upto.saturating_sub(self.under) == 1
+                || self.unsplit && self.free % 6 == 0)
     }
-    false
+}
+
+// Finite values, and the rank that is sought among them.
+#[derive(Clone, Copy)]
+struct Sought<'a> {
+    values: &'a [f64],
+    m: usize,
+    ghost finite: { T (all finite values.now) },
+    ghost rank: { (0 < m) × (m ≤ length values.now) },
+}
+
+impl<'a> Sought<'a> {
+    ghost use Rattle.std.specs.Prelude.{◌≡◌, ◌-◌, ◌<◌};
+    ghost use Rattle.select.specs.Passes.{passed};
+    ghost use Rattle.select.specs.Internal.{Holds};
+
+    // One pass, one bit more.
+    fn pass(self, h: Held) -> Held
+        requires { Holds self.m self.values.now h × (0 < h.free) }
+        ensures { (result.place ≡ passed self.entry.m self.entry.values.now (h.free - 1) h.place) × (result.free ≡ h.free - 1) × Holds self.entry.m self.entry.values.now result }
+    {
+        let middle = h.place + bit(h.free - 1);
+        let n = scans::count_below(self.values, order::value_at(middle));
+        h.one_bit(middle, n, self.m)
+    }
+
+    // One pass, and all bits that the values left share: free stay those from the highest in which some of them differ, and none where all are equal.
+    // Where they share none, it is one bit more.
+    fn gathering_pass(self, h: Held) -> Held
+        requires { Holds self.m self.values.now h × (0 < h.free) }
+        ensures { (result.free < h.free) × Holds self.entry.m self.entry.values.now result }
+    {
+        let o = h.free - 1;
+        let middle = h.place + bit(o);
+        let left = scans::gather(
+            self.values,
+            order::value_at(middle),
+            order::value_at(h.place),
+            value_past(middle, o),
+        );
+        let free = bits_of(left.any ^ left.every);
+        if free < h.free {
+            Held {
+                place: cleared(order::bits_place(left.any), free),
+                free,
+                unsplit: false,
+                ..h
+            }
+        } else {
+            h.one_bit(middle, left.below, self.m)
+        }
+    }
 }
 
 // The m-th smallest, m from 1.
@@ -144,6 +150,7 @@ pub fn mth_smallest(xs: &[f64], m: usize) -> f64
     requires { T (all finite xs.now) × (0 < m) × (m ≤ length xs.now) }
     ensures { result ≡ mth_smallest m xs.now }
 {
+    let sought = Sought { values: xs, m };
     let mut h = Held {
         place: 0,
         free: 64,
@@ -151,12 +158,13 @@ pub fn mth_smallest(xs: &[f64], m: usize) -> f64
         upto: xs.len(),
         unsplit: false,
     };
+    // Not counted: a pass may settle many bits.
     while 0 < h.free {
-        if worth_gathering(h) {
-            h = gathering_pass(xs, m, h);
+        h = if h.worth_gathering() {
+            sought.gathering_pass(h)
         } else {
-            h = pass(xs, m, h);
-        }
+            sought.pass(h)
+        };
     }
     order::value_at(h.place)
 }

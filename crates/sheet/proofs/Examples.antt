@@ -1,4 +1,4 @@
--- Sheets as printed, from the bytes of a file: W's, the example of document 02, §1; W with a third offer, which is set aside (§4) and has the figure M.
+-- Sheets as printed, from the bytes of a file: W's; W with a third offer, which is set aside and has the figure M.
 use mathlib.Core.Path.{◌≡◌, refl}
 use lib.Ieee.{lt, le, to_signed}
 use Rattle.words.specs.Words.{bytes_of, signed}

@@ -1,4 +1,3 @@
-pub mod Printable
 pub mod FileTexts
 pub mod Lengths
 pub mod Inputs

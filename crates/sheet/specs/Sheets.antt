@@ -1,4 +1,4 @@
--- The text of the buyers' sheet (document 02, §1). Definitions only.
+-- The text of the buyers' sheet. Definitions only.
 --   sheet_line code digits n  an offer: printed code and figure
 --   sheet_line_at l a i       the line of offer i, from 0
 --   sheet_text t a            the sheet of a trial with the figures a: a line for each offer in file order, then `end` and the number of rows

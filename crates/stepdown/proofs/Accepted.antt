@@ -1,8 +1,11 @@
 -- What an accepted table is known to be.
+--   size_fits          a size that passes 4 fits a usize
 --   Shape, shape       what it is to pass 4
 --   Accepted, accepted       what it is for a table to be accepted
 --   table-..           the same for a full run, with its work buffer
-use Prim.Native.Nat.{ℕ, ◌*◌, ◌≤◌, ◌<◌}
+use Prim.Native.Nat.{ℕ, ◌*◌, ◌^◌, ◌≤◌, ◌<◌}
+use native.Mathlib.Nat.{mul-le-mul_right}
+use native.Mathlib.Omega.{arith}
 use mathlib.Core.Path.{◌≡◌, sym}
 use mathlib.Core.Bool.{false}
 use mathlib.Core.List.{List}
@@ -22,6 +25,10 @@ use Rattle.refusals.proofs.Limits.{Sizes, sizes, Level, level, allowance-lt}
 use Rattle.masks.specs.Internal.{CheckedTable}
 use Rattle.stepdown.specs.Runs.{begun}
 use Rattle.stepdown.specs.Refusals.{bad_shape, bad_value, table_checks, table_refusal, table_run_refusal, bad_figures}
+
+-- a table's size fits a usize
+pub size_fits : (rows columns k : ℕ) → bad_shape rows columns k ≡ false → rows * columns < 2 ^ 64
+size_fits rows columns k h = let s = sizes 4096 32 rows columns k h in omega (arith, mul-le-mul_right columns s.rows-most, s.columns-most)
 
 abbrev pub Shape : ℕ → ℕ → ℕ → Type 0
 Shape rows columns k = Sizes 4096 32 rows columns k

@@ -1,4 +1,4 @@
--- Who set a critical value (document 02, §5), in the public calls for tables.
+-- Who set a critical value, in the public calls for tables.
 --   step-set-by        what the record of an accepted step tells is true
 --   table-set-by       so is what each record of a table's full run tells
 use Prim.Native.Nat.{ℕ, ◌<◌}

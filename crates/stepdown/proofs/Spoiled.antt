@@ -1,9 +1,9 @@
 -- The conditions of 14 clause by clause, and what a run that has passed them is known to be.
 --   any_at, any_none       a clause holds, or none does
---   set_beyond .. none_left     the answer of each path through the clauses
+--   ended-at-start, ended-later, none_left     whether a clause holds, where the earlier ones don't
 --   Figures, figures       what it is for a run's own figures to be good
 --   Progress, progress     what is known of a run that is not spoiled and has not ended
-use Prim.Native.Nat.{ℕ, zero, suc, ◌^◌, ◌≤◌, ◌<◌}
+use Prim.Native.Nat.{ℕ, zero, suc, ◌*◌, ◌^◌, ◌≤◌, ◌<◌}
 use native.Mathlib.Omega.{arith}
 use mathlib.Core.Path.{◌≡◌, refl, sym, ap, ap₂, ◌∙◌}
 use mathlib.Core.Bool.{Bool, true, false, not, ◌&&◌, ◌||◌, true≢false}
@@ -11,9 +11,9 @@ use mathlib.Core.List.{List, [], ◌∷◌}
 use lib.ListN.{get_or}
 use lib.Dec.{ltb, leb, eqb}
 use lib.Pow.{pow_pos}
-use borrow.Author.Tests.{lt-ltb, le-ltb, le-leb, lt-leb, eq-eqb, ne_eqb, ltb-false, leb-false, eqb-true}
+use borrow.Author.Tests.{lt-ltb, le-ltb, lt-leb, eq-eqb, ne_eqb, ltb-false, leb-false, eqb-true}
 use Rattle.refusals.specs.Limits.{bad_level}
-use Rattle.refusals.proofs.Answers.{none-holds, none_first}
+use Rattle.refusals.proofs.Answers.{none_first}
 use Rattle.refusals.proofs.Limits.{positive, or-none, neither, Level, level}
 use Rattle.columns.specs.Columns.{size, columns_of, full_mask}
 use Rattle.stepdown.specs.Refusals.{bad_shape, begin_checks, begin_refusal, bad_figures, progress_clauses, any, spoiled}
@@ -62,26 +62,6 @@ right-off false f = refl
 module _ (r : Run) where
   abbrev n : ℕ
   n = size (columns_of r.columns r.rejected)
-
-  pub set_beyond : (m : ℕ) → m ≡ full_mask r.columns → m < r.rejected → true ≡ any (progress_clauses r)
-  unfolding progress_clauses
-  set_beyond m e h = any_at (progress_clauses r) 0 (le-leb (2 ^ r.columns) r.rejected (omega (arith, pow_pos r.columns)))
-
-  pub too-many-steps : 32 < r.steps → true ≡ any (progress_clauses r)
-  unfolding progress_clauses
-  too-many-steps h = any_at (progress_clauses r) 1 (lt-ltb 32 r.steps h)
-
-  pub rejected-at-start : r.steps ≡ 0 → (r.rejected ≡ 0 → ⊥) → true ≡ any (progress_clauses r)
-  unfolding progress_clauses
-  rejected-at-start z h = any_at (progress_clauses r) 2 (both_true (eq-eqb r.steps 0 z) (ap not (ne_eqb r.rejected 0 h)))
-
-  pub few-for-steps : r.ended ≡ false → (q : ℕ) → q ≡ n → q < r.steps → true ≡ any (progress_clauses r)
-  unfolding progress_clauses
-  few-for-steps d q c h = any_at (progress_clauses r) 4 (both_true (ap not d) (lt-ltb n r.steps (omega arith)))
-
-  pub few-for-k : r.ended ≡ false → (r.steps ≡ 0 → ⊥) → (q : ℕ) → q ≡ n → q < r.k → true ≡ any (progress_clauses r)
-  unfolding progress_clauses
-  few-for-k d s q c h = any_at (progress_clauses r) 5 (both_true (ap not d) (both_true (lt-ltb 0 r.steps (positive r.steps s)) (lt-ltb n r.k (omega arith))))
 
   -- the answer where no earlier clause holds
   module _ (m : ℕ) (e : m ≡ full_mask r.columns) (a : r.rejected ≤ m) (b : r.steps ≤ 32) where
@@ -214,9 +194,15 @@ module _ (r : Run) where
       let g = or-none (bad_level r.a r.b) (leb r.rows r.observed) f.1 in
       record { shaped = shape r.rows r.columns r.k f.0; levelled = level r.a r.b g.0; seen = leb-false r.rows r.observed g.1 }
 
-  pub figures-level : bad_figures r ≡ false → bad_level r.a r.b ≡ false
+  pub rows_most : bad_figures r ≡ false → r.rows ≤ 4096
+  rows_most h = (figures h).shaped.rows-most
+
+  pub columns_most : bad_figures r ≡ false → r.columns ≤ 32
+  columns_most h = (figures h).shaped.columns-most
+
+  pub level_good : bad_figures r ≡ false → bad_level r.a r.b ≡ false
   unfolding bad_figures
-  figures-level h = (or-none (bad_level r.a r.b) (leb r.rows r.observed) (or-none (bad_shape r.rows r.columns r.k) (bad_level r.a r.b || leb r.rows r.observed) h).1).0
+  level_good h = (or-none (bad_level r.a r.b) (leb r.rows r.observed) (or-none (bad_shape r.rows r.columns r.k) (bad_level r.a r.b || leb r.rows r.observed) h).1).0
 
   pub figures-none : bad_figures r ≡ false → begin_refusal r.rows r.columns r.k r.a r.b r.observed ≡ 0
   unfolding bad_figures begin_refusal
@@ -225,21 +211,6 @@ module _ (r : Run) where
       let g = or-none (bad_level r.a r.b) (leb r.rows r.observed) f.1 in
       none_first (begin_checks r.rows r.columns r.k r.a r.b r.observed) (f.0, (g.0, (g.1, tt)))
 
-  module _ (m : ℕ) (e : m ≡ begin_refusal r.rows r.columns r.k r.a r.b r.observed) where
-    pub figures-good : m ≡ 0 → bad_figures r ≡ false
-    unfolding begin_refusal bad_figures
-    figures-good z = let f = none-holds (begin_checks r.rows r.columns r.k r.a r.b r.observed) (sym e ∙ z) in neither f.0 (neither f.1.0 f.1.1.0)
-
-    pub figures-bad : (m ≡ 0 → ⊥) → true ≡ spoiled r
-    unfolding begin_refusal bad_figures spoiled
-    figures-bad f = go (bad_shape r.rows r.columns r.k) (bad_level r.a r.b) (leb r.rows r.observed) e
-      where
-        go : (x y z : Bool) → m ≡ mathlib.Core.Bool.cond x 4 (mathlib.Core.Bool.cond y 3 (mathlib.Core.Bool.cond z 10 0)) → true ≡ ((x || (y || z)) || any (progress_clauses r))
-        go true y z q = refl
-        go false true z q = refl
-        go false false true q = refl
-        go false false false q = absurd (f q)
-
   pub spoiled-else : (b : Bool) → bad_figures r ≡ false → b ≡ any (progress_clauses r) → b ≡ spoiled r
   unfolding spoiled
   spoiled-else b h e = e ∙ ap (λ (x : Bool). x || any (progress_clauses r)) (sym h)
@@ -247,3 +218,8 @@ module _ (r : Run) where
   pub spoiled-none : spoiled r ≡ false → (bad_figures r ≡ false) × (any (progress_clauses r) ≡ false)
   unfolding spoiled
   spoiled-none h = or-none (bad_figures r) (any (progress_clauses r)) h
+
+  -- a table of its size fits a usize
+  pub size_fits : spoiled r ≡ false → r.rows * r.columns < 2 ^ 64
+  unfolding bad_figures
+  size_fits h = Rattle.stepdown.proofs.Accepted.size_fits r.rows r.columns r.k (or-none (bad_shape r.rows r.columns r.k) (bad_level r.a r.b || leb r.rows r.observed) (spoiled-none h).0).0

@@ -17,6 +17,7 @@ use lib.Dec.{eqb}
 use lib.Pow.{pow_pos}
 use lib.Ieee.{Float}
 use borrow.Author.Tests.{eq-eqb, le-ltb, lt-leb}
+use Rattle.std.proofs.Common.{Ok}
 use Rattle.order.specs.Order.{finite}
 use Rattle.order.specs.Counting.{all}
 use Rattle.order.specs.Lists.{rows_of}
@@ -24,7 +25,7 @@ use Rattle.order.proofs.Booleans.{T_true, not-no}
 use Rattle.refusals.specs.Answers.{first_refusal, r9, r11}
 use Rattle.refusals.specs.Limits.{allowance}
 use Rattle.refusals.specs.Buffers.{too_short}
-use Rattle.refusals.proofs.Answers.{none_first, accepted, refused}
+use Rattle.refusals.proofs.Answers.{none_first, none-holds, refused, outcome-ok, outcome-answer}
 use Rattle.columns.specs.Columns.{size, full_mask}
 use Rattle.runs.specs.Stepdown.{rejected_set, newly_rejected, next, steps_from, steps_of, full_run, left_over}
 use Rattle.runs.specs.Tables.{table_start, table_run}
@@ -42,12 +43,9 @@ use Rattle.stepdown.specs.Refusals.{bad_value, table_run_refusal, bad_figures, a
 use Rattle.stepdown.specs.Answers.{begin_answer, step_answer}
 use Rattle.stepdown.specs.Stepping.{StepTaken, onward, stepped, stepped_records, last_run}
 use Rattle.stepdown.specs.declared.Run.{Run}
-use Rattle.stepdown.specs.declared.StepAnswer.{StepAnswer}
-use Rattle.stepdown.specs.declared.StepAnswer.TheVariants.{Stepped, Refused}
 use Rattle.stepdown.proofs.Accepted.{table-accepted, accepted-checked, table-room, table-figures}
 use Rattle.stepdown.proofs.Spoiled.{ended-at-start, ended-later, none_left, spoiled-else, figures-none}
 use Rattle.stepdown.proofs.Calls.{begin-on, step-figures, step-behind, step_room, step-known, sides}
-use Rattle.stepdown.specs.declared.Beginning.TheVariants as beginning
 
 -- ---- the refusal of a run that is not spoiled
 
@@ -121,8 +119,8 @@ module _ (t : List Float) (r : Run) (places : ℕ) (h : step_refusal t r places 
 -- ---- a run that is begun
 
 module _ (t : List Float) (rows columns k a b observed places : ℕ) (h : table_run_refusal t rows columns k a b observed places ≡ 0) where
-  pub begin-accepted : begin_answer rows columns k a b observed ≡ beginning.Begun (begun rows columns k a b observed)
-  begin-accepted = sym (begin-on rows columns k a b observed 0 (sym (figures-none (begun rows columns k a b observed) (table-figures t rows columns k a b observed places h))) refl)
+  pub begin-accepted : begin_answer rows columns k a b observed ≡ Ok (begun rows columns k a b observed)
+  begin-accepted = begin-on rows columns k a b observed (figures-none (begun rows columns k a b observed) (table-figures t rows columns k a b observed places h))
 
   begun-unspoiled : spoiled (begun rows columns k a b observed) ≡ false
   begun-unspoiled = sym (spoiled-else (begun rows columns k a b observed) false (table-figures t rows columns k a b observed places h)
@@ -149,12 +147,12 @@ module _ (t : List Float) (places : ℕ) where
 
   stepped-on : (n : ℕ) (r : Run) → step_refusal t r places ≡ 0 → stepped (suc n) t places r ≡ taken r ∷ stepped n t places (next_run t r)
   unfolding stepped step_answer step_refusal
-  stepped-on n r h = ap (λ (x : StepAnswer). onward x (λ s. stepped n t places s)) (sym (accepted (Stepped (next_run t r) (step_record t r)) Refused (step_checks t r places) 0 (sym h) refl))
+  stepped-on n r h = ap (λ x. onward x (λ s. stepped n t places s)) (outcome-ok (step_checks t r places) (next_run t r, step_record t r) (none-holds (step_checks t r places) h))
 
   stepped-over : (n : ℕ) (r : Run) → step_refusal t r places ≡ 13 → stepped n t places r ≡ []
   unfolding stepped step_answer step_refusal
   stepped-over zero r h = refl
-  stepped-over (suc n) r h = ap (λ (x : StepAnswer). onward x (λ s. stepped n t places s)) (sym (refused (Stepped (next_run t r) (step_record t r)) Refused (step_checks t r places) 13 (sym h) (λ z. omega arith)))
+  stepped-over (suc n) r h = outcome-answer (λ x. onward x (λ s. stepped n t places s)) (λ _. []) (λ _. refl) (step_checks t r places) (next_run t r, step_record t r) ∙ sym (refused (taken r ∷ stepped n t places (next_run t r)) (λ _. []) (step_checks t r places) 13 (sym h) (λ z. omega arith))
 
   -- beside the steps from r on; `b` is whether r has ended, and 32 steps are enough
   beside : (m n : ℕ) (b : Bool) (r : Run) → step_refusal t r places ≡ cond b 13 0 → 32 ≤ m + r.steps → m ≤ n

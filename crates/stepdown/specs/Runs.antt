@@ -1,4 +1,4 @@
--- Document 01's run: a value that holds sizes, level, k and observed row, and how far it has got. Definitions only.
+-- A run: a value that holds sizes, level, k and observed row, and how far it has got. Definitions only.
 --   begun rows columns k a b observed   the run before step 1: nothing rejected, no step taken
 --   state_of r           the state that it is in: its level as e, and all columns live
 --   resume r s          the run in the state s

@@ -4,21 +4,20 @@
 --   stepped n t places r          the steps that one gets by asking for steps from r on until one is refused, at most n of them
 --   stepped_records n t places r  their records
 --   last_run r ss        the run that is held after them
-use Rattle.std.specs.Prelude.{ℕ, zero, suc, List, [], ◌∷◌, map, Float}
+use Rattle.std.specs.Prelude.{ℕ, zero, suc, List, [], ◌∷◌, map, Result, Ok, Err, Float}
+use Rattle.refusals.specs.declared.refusal.Refusal.{Refusal}
 use Rattle.runs.specs.declared.Record.{Record}
 use Rattle.stepdown.specs.Answers.{step_answer}
 use Rattle.stepdown.specs.declared.Run.{Run}
-use Rattle.stepdown.specs.declared.StepAnswer.{StepAnswer}
-use Rattle.stepdown.specs.declared.StepAnswer.TheVariants as stepping
 
 pub record StepTaken : Type 0 where
   pub run : Run
   pub logged : Record
 
 -- an accepted step and those that follow it, or none
-abbrev pub onward : StepAnswer → (Run → List StepTaken) → List StepTaken
-onward (stepping.Stepped s m) more = record { run = s; logged = m } ∷ more s
-onward (stepping.Refused n) more = []
+abbrev pub onward : Result (Run × Record) Refusal → (Run → List StepTaken) → List StepTaken
+onward (Ok p) more = record { run = p.0; logged = p.1 } ∷ more p.0
+onward (Err n) more = []
 
 unfoldable pub stepped : ℕ → List Float → ℕ → Run → List StepTaken
 unfolding step_answer

@@ -9,10 +9,12 @@ ghost use Rattle.stepdown.specs.Runs.{state_of, resume};
 ghost use Rattle.stepdown.specs.Refusals.{bad_figures};
 ghost use Rattle.stepdown.specs.Answers.{begin_answer, step_answer, step_work, full_answer, full_work};
 
-pub use refusal::table_run_refusal;
+pub use refusal::check_table_run;
+use refusals::Refusal;
 use runs::{FullRun, Record, State};
 
-// A run (document 01), by value. The level is a/b; bit j of `rejected` says that column j is rejected.
+// A run, by value. The level is a/b; bit j of `rejected` says that column j is rejected.
+// The mask may be any 32 bits, and the level any two numbers: refusal 14 tells of a run that is handed over spoiled.
 #[derive(Clone, Copy)]
 pub struct Run {
     pub rows: usize,
@@ -26,21 +28,8 @@ pub struct Run {
     pub ended: bool,
 }
 
-// Beginning a run answers the run, or the refusal number.
-#[derive(Clone, Copy)]
-pub enum Beginning {
-    Begun(Run),
-    Refused(u32),
-}
-
-// A step answers the run after it with its record, or the refusal number.
-#[derive(Clone, Copy)]
-pub enum StepAnswer {
-    Stepped(Run, Record),
-    Refused(u32),
-}
-
 // The state that a run with good figures is in: its e, and all columns live.
+#[tactic(auto, using(crate::proofs::Spoiled::rows_most, crate::proofs::Spoiled::columns_most, crate::proofs::Spoiled::level_good))]
 fn state_of(r: Run) -> State
     requires { bad_figures r ≡ false }
     ensures { result ≡ state_of r }
@@ -60,6 +49,7 @@ fn state_of(r: Run) -> State
 
 impl Run {
     // A run before step 1: nothing rejected, no step taken.
+    #[tactic(auto, unfolding(crate::specs::Answers::begin_answer))]
     pub fn begin(
         rows: usize,
         columns: usize,
@@ -67,14 +57,11 @@ impl Run {
         a: usize,
         b: usize,
         observed: usize,
-    ) -> Beginning
+    ) -> Result<Run, Refusal>
         ensures { result ≡ begin_answer rows columns k a b observed }
     {
-        let n = refusal::of_beginning(rows, columns, k, a, b, observed);
-        if n != 0 {
-            return Beginning::Refused(n);
-        }
-        Beginning::Begun(Run {
+        refusal::check_beginning(rows, columns, k, a, b, observed)?;
+        Ok(Run {
             rows,
             columns,
             k,
@@ -92,37 +79,29 @@ impl Run {
         ensures { result ≡ resume self s }
     {
         Run {
-            rows: self.rows,
-            columns: self.columns,
-            k: self.k,
-            a: self.a,
-            b: self.b,
-            observed: self.observed,
             rejected: s.rejected,
             steps: s.steps,
             ended: s.ended,
+            ..self
         }
     }
 
     // The next step over a lent table, with a work buffer of a place for each row.
-    pub fn step(self, table: &[f64], work: &mut [f64]) -> StepAnswer
+    #[tactic(auto, unfolding(crate::specs::Answers::step_answer, crate::specs::Answers::step_work, refusals::specs::Answers::answer))]
+    pub fn step(self, table: &[f64], work: &mut [f64]) -> Result<(Run, Record), Refusal>
         ensures value { result ≡ step_answer table.now self (length work.old) }
         ensures work_after { work.new ≡ step_work table.now self work.old }
     {
-        let n = refusal::of_step(self, table, work.len());
-        if n != 0 {
-            return StepAnswer::Refused(n);
-        }
+        refusal::check_step(self, table, work.len())?;
         let s = engine::step(state_of(self), table, work);
-        let m = self.rows;
-        engine::clear(work, m);
-        let state = s.state;
-        let logged = s.logged;
-        StepAnswer::Stepped(self.resume(state), logged)
+        engine::clear(work, self.rows);
+        Ok((self.resume(s.state), s.logged))
     }
 }
 
 // All steps of a table at once: the same as stepping from the beginning.
+// A slice and plain numbers: so the C calls hand a table over, and so the contract's clauses name them.
+#[tactic(auto, unfolding(crate::specs::Answers::full_answer, crate::specs::Answers::full_work, crate::specs::Refusals::table_checks, refusals::specs::Answers::answer))]
 pub fn full_run(
     table: &[f64],
     work: &mut [f64],
@@ -132,15 +111,12 @@ pub fn full_run(
     a: usize,
     b: usize,
     observed: usize,
-) -> FullRun
+) -> Result<FullRun, Refusal>
     ensures value { result ≡ full_answer table.now rows columns k a b observed (length work.old) }
     ensures work_after { work.new ≡ full_work table.now rows columns k a b observed work.old }
 {
-    let n = refusal::table_run_refusal(table, rows, columns, k, a, b, observed, work.len());
-    if n != 0 {
-        return runs::refused(n);
-    }
+    check_table_run(table, rows, columns, k, a, b, observed, work.len())?;
     let e = engine::allowance(rows, a, b);
     let live = masks::full_mask(columns);
-    engine::full_run(table, work, rows, columns, k, e, observed, live)
+    Ok(engine::full_run(table, work, rows, columns, k, e, observed, live))
 }

@@ -1,4 +1,4 @@
-// The adjusted figures of a table (document 02, §1): a public call, which refuses bad input.
+// The adjusted figures of a table: a public call, which refuses bad input.
 // What they are stands in crate adjustment; crate figuring works them out.
 #![tactic(auto)]
 
@@ -8,8 +8,10 @@ ghost use Rattle.std.specs.Prelude.{◌≡◌, length};
 ghost use Rattle.adjustment.specs.Answers.{figures_answer, figures_work};
 
 use adjustment::Adjusted;
+use refusals::Refusal;
 
 // The figure of each column of a table. No level is taken; the work buffer then holds plus zero.
+#[tactic(auto, unfolding(adjustment::specs::Answers::figures_answer, adjustment::specs::Answers::figures_work, adjustment::specs::Answers::adjustment_checks, refusals::specs::Answers::answer))]
 pub fn adjusted_figures(
     table: &[f64],
     work: &mut [f64],
@@ -17,20 +19,13 @@ pub fn adjusted_figures(
     columns: usize,
     k: usize,
     observed: usize,
-) -> Adjusted
+) -> Result<Adjusted, Refusal>
     ensures value { result ≡ figures_answer table.now rows columns k observed (length work.old) }
     ensures work_after { work.new ≡ figures_work table.now rows columns k observed work.old }
 {
-    let n = refusal::of_table(table, rows, columns, k, observed, work.len());
-    if n != 0 {
-        return adjustment::refused(n);
-    }
+    refusal::check(table, rows, columns, k, observed, work.len())?;
     engine::clear(work, rows);
     let live = masks::full_mask(columns);
     let figures = figuring::all_figures(table, rows, columns, k, observed, live);
-    Adjusted {
-        refusal: 0,
-        rows,
-        figures,
-    }
+    Ok(Adjusted { rows, figures })
 }

@@ -1,4 +1,4 @@
--- What the calls over balanced tables answer, and what the lent buffers hold afterwards (document 02, §3). Definitions only.
+-- What the calls over balanced tables answer, and what the lent buffers hold afterwards. Definitions only.
 --   bad_counts rows columns         the condition of 4 for a table that comes without a k
 --   balance_checks, balance_refusal  of making the balanced table in a buffer of so many places: 4, 9, 11, 12
 --   balance_buffer t rows columns out   the buffer afterwards: the balanced table in its first places
@@ -6,13 +6,14 @@
 --   balanced_checks, balanced_refusal   of a balanced full run, with buffers of so many places: those of the plain one, 12 for the work buffer, then for the table's
 --   balanced_answer                 what the balanced full run answers
 --   balanced_out, balanced_work     the table's buffer and the work buffer after it
-use Rattle.std.specs.Prelude.{ℕ, ◌*◌, Bool, not, ◌||◌, List, ◌∷◌, ◌++◌, length, eqb, Float}
+use Rattle.std.specs.Prelude.{ℕ, ◌*◌, Bool, not, ◌||◌, List, ◌∷◌, ◌++◌, length, eqb, Result, Float}
 use Rattle.limits.specs.Limits.{table_rows_most, columns_most}
-use Rattle.refusals.specs.Answers.{Checks, answer, first_refusal, afterwards, r4, r9, r11}
+use Rattle.refusals.specs.Answers.{Checks, answer, outcome, first_refusal, afterwards, r4, r9, r11}
+use Rattle.refusals.specs.declared.refusal.Refusal.{Refusal}
 use Rattle.refusals.specs.Limits.{outside}
 use Rattle.refusals.specs.Buffers.{too_short, written, cleared}
 use Rattle.runs.specs.Stepdown.{Outcome}
-use Rattle.runs.specs.FullRuns.{accepted_run, refused_run}
+use Rattle.runs.specs.FullRuns.{accepted_run}
 use Rattle.runs.specs.Tables.{table_run}
 use Rattle.runs.specs.declared.FullRun.{FullRun}
 use Rattle.stepdown.specs.Refusals.{bad_value, table_checks, table_run_checks}
@@ -52,9 +53,9 @@ unfoldable pub balanced_refusal : List Float → ℕ → ℕ → ℕ → ℕ →
 unfolding first_refusal table_checks
 balanced_refusal t rows columns k a b observed places work = first_refusal (balanced_checks t rows columns k a b observed places work)
 
-unfoldable pub balanced_answer : List Float → ℕ → ℕ → ℕ → ℕ → ℕ → ℕ → ℕ → ℕ → FullRun
+unfoldable pub balanced_answer : List Float → ℕ → ℕ → ℕ → ℕ → ℕ → ℕ → ℕ → ℕ → Result FullRun Refusal
 unfolding balanced_run
-balanced_answer t rows columns k a b observed places work = answer (balanced_checks t rows columns k a b observed places work) (accepted_run (balanced_run t rows columns k a b observed)) refused_run
+balanced_answer t rows columns k a b observed places work = outcome (balanced_checks t rows columns k a b observed places work) (accepted_run (balanced_run t rows columns k a b observed))
 
 unfoldable pub balanced_out : List Float → ℕ → ℕ → ℕ → ℕ → ℕ → ℕ → List Float → ℕ → List Float
 unfolding answer table_checks balanced_table

@@ -3,7 +3,7 @@
 --   Example           what is asked and what is told
 --   tabled, ranks     the entries of a balanced table; those that are told
 --   plain, balanced   the full run at 1/4 for k 1, row 0 being observed: of a table, and of its balanced table
---   examples          all of them: W's of document 01, and those of Sales
+--   examples          all of them: W's, and those of Sales
 use Rattle.std.specs.Prelude.{ℕ, List, [], ◌∷◌, map, Float}
 use Rattle.runs.specs.Examples.{⁺, ⁻, step, Answer, run, value, whole, W}
 use Rattle.runs.specs.Tables.{table_run}

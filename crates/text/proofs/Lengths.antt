@@ -13,14 +13,12 @@ use mathlib.Core.Path.{◌≡◌, refl}
 use mathlib.Core.Bool.{Bool, true, false, cond}
 use mathlib.Core.List.{List, [], ◌∷◌, ◌++◌}
 use lib.ListN.{length, length-append}
-use lib.Dec.{ltb, eqb}
+use lib.Dec.{ltb}
 use lib.IntN.{ℤ, pos, negsuc}
-use borrow.Author.Tests.{eqb-true}
-use Rattle.refusals.specs.Answers.{Checks, answer, first_refusal}
+use Rattle.refusals.specs.Answers.{Checks, answer, first_refusal, number as refusal_number}
 use Rattle.text.specs.Ascii.{ascii}
 use Rattle.text.specs.Text.{digit, printed, decimal_up_to, decimal, decimal_int, after_first, line, lines_to, refused_text}
-use Rattle.text.specs.Renderings.{text_for}
-use Rattle.text.proofs.Rendered.{for-answer}
+use Rattle.text.proofs.Numbers.{length_printed}
 
 -- ---- numbers
 
@@ -34,9 +32,7 @@ decimal-most (suc f) n = go (ltb n 10) (decimal-most f (n / 10))
     go false h = omega (arith, length-append (decimal_up_to f (n / 10)) (digit (n % 10)))
 
 pub printed-most : (d c : ℕ) → length (printed d c) ≤ d
-unfolding printed
-printed-most zero c = omega arith
-printed-most (suc d) c = omega (arith, length-append (printed d (c / 10)) (digit (c % 10)), printed-most d (c / 10))
+printed-most d c = omega (arith, length_printed d c)
 
 pub int-most : (z : ℤ) → length (decimal_int z) ≤ 21
 int-most (pos n) = omega (arith, decimal-most 20 n)
@@ -70,14 +66,12 @@ lines-most (suc n) m f h = omega (arith, length-append (lines_to n f) (f n), lin
 
 -- ---- a text, or a refusal
 
-for-most : (n most : ℕ) (ys : List ℕ) → 29 ≤ most → (n ≡ 0 → length ys ≤ most) → length (text_for n ys) ≤ most
-unfolding text_for
-for-most n most ys l h = go (eqb n 0) (eqb-true n 0)
-  where
-    go : (b : Bool) → (b ≡ true → n ≡ 0) → length (cond b ys (refused_text n)) ≤ most
-    go true z = h (z refl)
-    go false z = omega (arith, numbered-most (ascii "refused") n 7 (omega arith))
-
 pub answer-most : (cs : Checks) (ys : List ℕ) (most : ℕ) → 29 ≤ most → (first_refusal cs ≡ 0 → length ys ≤ most) → length (answer cs ys refused_text) ≤ most
-unfolding first_refusal
-answer-most cs ys most l h = rw (← for-answer (λ n. n) (λ _. ys) cs 0 (λ n. n) refl (λ n. refl)) (for-most (first_refusal cs) most ys l h)
+unfolding answer first_refusal
+answer-most [] ys most l h = h refl
+answer-most (c ∷ cs) ys most l h = go c.0 (answer-most cs ys most l) h
+  where
+    go : (b : Bool) → ((first_refusal cs ≡ 0 → length ys ≤ most) → length (answer cs ys refused_text) ≤ most) → (cond b (refusal_number c.1) (first_refusal cs) ≡ 0 → length ys ≤ most)
+        → length (cond b (refused_text (refusal_number c.1)) (answer cs ys refused_text)) ≤ most
+    go true on h = omega (arith, numbered-most (ascii "refused") (refusal_number c.1) 7 (omega arith))
+    go false on h = on h

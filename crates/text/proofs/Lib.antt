@@ -1,4 +1,3 @@
-pub mod Writes
 pub mod Numbers
 pub mod Cents
 pub mod Lines

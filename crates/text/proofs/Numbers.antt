@@ -1,43 +1,46 @@
 -- Laws of numbers as text.
---   less, remainder                      steps of a recursion over digits
+--   decimal-is, decimal_int-is           what std writes of a number is its text
+--   decimal-digit                        the text of a digit
 --   printed-none, printed-more           no digit is left; the last digit after the others
---   decimal-none, decimal-one, -more     no digit is left; one digit; the last digit after the others
-use Prim.Native.Nat.{ℕ, zero, suc, ◌-◌, ◌/◌, ◌%◌, ◌≤◌, ◌<◌}
+--   length_printed                       as many digits as are asked for
+use Prim.Native.Nat.{ℕ, zero, suc, ◌-◌, ◌/◌, ◌%◌, ◌<◌, ◌^◌}
 use native.Mathlib.Omega.{arith}
 use mathlib.Core.Path.{◌≡◌, refl, sym, ap, ◌∙◌}
-use mathlib.Core.Bool.{Bool, cond}
-use mathlib.Core.List.{[], ◌++◌}
+use mathlib.Core.List.{[], ◌∷◌, ◌++◌}
+use lib.ListN.{length, length-append}
+use lib.IntN.{ℤ, pos, negsuc, nat_abs}
 use borrow.Author.Tests.{lt-ltb, le-ltb}
-use Rattle.refusals.proofs.Limits.{positive}
-use Rattle.text.specs.Text.{digit, printed, decimal_up_to}
+use Rattle.std.specs.Fmt as fmt
+use Rattle.std.proofs.lemmas.Fmt.{AppendsLastDigit, decimal_from_appends, length-decimal-le}
+use Rattle.text.specs.Text.{digit, printed, decimal_up_to, decimal, decimal_int}
 
-pub less : (n t : ℕ) → (n ≡ 0 → ⊥) → n ≡ t → n - 1 < t
-less n t f e = omega (arith, positive n f)
+appends : AppendsLastDigit decimal_up_to
+unfolding decimal_up_to
+appends = record {
+  one = λ k n h. let e : n % 10 ≡ n = omega arith in rw (lt-ltb n 10 h, e);
+  more = λ k n h. rw (le-ltb n 10 h);
+}
 
-pub remainder : (n : ℕ) → n % 10 < 10
-remainder n = omega arith
+pub decimal-is : (n : ℕ) → n < 2 ^ 64 → fmt.decimal n ≡ decimal n
+decimal-is n h = sym (decimal_from_appends decimal_up_to appends 20 n h (length-decimal-le 20 n (omega arith) (omega arith) h))
 
-pub printed-none : (n c : ℕ) → n ≡ 0 → [] ≡ printed n c
+pub decimal_int-is : (z : ℤ) → nat_abs z < 2 ^ 63 → fmt.signed_decimal z ≡ decimal_int z
+decimal_int-is (pos n) h = decimal-is n (omega arith)
+decimal_int-is (negsuc n) h = ap (λ ds. 45 ∷ ds) (decimal-is (suc n) (omega arith))
+
+pub decimal-digit : (n : ℕ) → n < 10 → decimal n ≡ digit n
+decimal-digit n h = appends.one 19 n h
+
+pub printed-none : (n c : ℕ) → n ≡ 0 → printed n c ≡ []
 unfolding printed
-printed-none n c e = ap (λ (m : ℕ). printed m c) (sym e)
+printed-none n c e = ap (λ (m : ℕ). printed m c) e
 
-pub printed-more : (n c : ℕ) → (n ≡ 0 → ⊥) → printed (n - 1) (c / 10) ++ digit (c % 10) ≡ printed n c
+pub printed-more : (n c : ℕ) → 0 < n → printed n c ≡ printed (n - 1) (c / 10) ++ digit (c % 10)
 unfolding printed
-printed-more zero c f = absurd (f refl)
-printed-more (suc n) c f = let e : suc n - 1 ≡ n = omega arith in ap (λ (m : ℕ). printed m (c / 10) ++ digit (c % 10)) e
+printed-more zero c h = absurd (omega arith)
+printed-more (suc n) c h = let e : n ≡ suc n - 1 = omega arith in ap (λ (m : ℕ). printed m (c / 10) ++ digit (c % 10)) e
 
-pub decimal-none : (f n : ℕ) → f ≡ 0 → [] ≡ decimal_up_to f n
-unfolding decimal_up_to
-decimal-none f n e = ap (λ (m : ℕ). decimal_up_to m n) (sym e)
-
-pub decimal-one : (f n : ℕ) → (f ≡ 0 → ⊥) → n < 10 → digit (n % 10) ≡ decimal_up_to f n
-unfolding decimal_up_to
-decimal-one zero n g h = absurd (g refl)
-decimal-one (suc f) n g h = ap (λ (b : Bool). cond b [] (decimal_up_to f (n / 10)) ++ digit (n % 10)) (sym (lt-ltb n 10 h))
-
-pub decimal-more : (f n : ℕ) → (f ≡ 0 → ⊥) → 10 ≤ n → decimal_up_to (f - 1) (n / 10) ++ digit (n % 10) ≡ decimal_up_to f n
-unfolding decimal_up_to
-decimal-more zero n g h = absurd (g refl)
-decimal-more (suc f) n g h =
-    let e : suc f - 1 ≡ f = omega arith in
-    ap (λ (m : ℕ). decimal_up_to m (n / 10) ++ digit (n % 10)) e ∙ ap (λ (b : Bool). cond b [] (decimal_up_to f (n / 10)) ++ digit (n % 10)) (sym (le-ltb n 10 h))
+pub length_printed : (n c : ℕ) → length (printed n c) ≡ n
+unfolding printed
+length_printed zero c = refl
+length_printed (suc n) c = length-append (printed n (c / 10)) (digit (c % 10)) ∙ omega (arith, length_printed n (c / 10))

@@ -1,4 +1,3 @@
 pub mod Ascii
 pub mod Text
-pub mod Writes
 pub mod Renderings

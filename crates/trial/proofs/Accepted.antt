@@ -1,4 +1,6 @@
 -- What an accepted trial is known to be.
+--   Accepted, accepted     what is known of a trial that nothing is turned away for
+--   accepted_ok            the same, by the answer of its checks
 use Prim.Native.Nat.{ℕ, zero, suc, ◌≤◌, ◌<◌}
 use native.Mathlib.Omega.{arith}
 use mathlib.Core.Path.{◌≡◌, sym, subst}
@@ -7,12 +9,13 @@ use mathlib.Core.List.{List, [], ◌∷◌, ◌++◌}
 use lib.ListN.{length, length-take}
 use lib.Dec.{T}
 use lib.IntN.{ℤ, pos}
+use Rattle.std.proofs.Common.{Ok}
 use Rattle.limits.specs.Limits.{offers_most, tolerance_most}
 use Rattle.order.specs.Counting.{all}
 use Rattle.order.proofs.Booleans.{and_both}
-use Rattle.refusals.specs.Answers.{r3, places_from}
+use Rattle.refusals.specs.Answers.{r3, places_from, outcome}
 use Rattle.refusals.specs.Limits.{bad_columns, bad_level}
-use Rattle.refusals.proofs.Answers.{NoneHolds, none-holds, none-append}
+use Rattle.refusals.proofs.Answers.{NoneHolds, none-holds, none_first, none-append, ok-none}
 use Rattle.refusals.proofs.Places.{places-each}
 use Rattle.refusals.proofs.Limits.{fitting, Level, level}
 use Rattle.trial.specs.Designs.{design_checks}
@@ -74,3 +77,7 @@ accepted t h =
       figures-pass = each;
       in-range = figures-in (figures_of t) n (simp length-take (omega arith)) each;
     }
+
+pub accepted_ok : {A : Type 0} (t : Trial) (a : A) {x : A} → outcome (trial_checks t) a ≡ Ok x → Accepted t
+unfolding trial_refusal
+accepted_ok t a h = accepted t (none_first (trial_checks t) (ok-none (trial_checks t) a _ h))

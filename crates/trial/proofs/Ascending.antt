@@ -1,4 +1,4 @@
--- The rows of a trial of shops without partners stand in ascending order of their lists (document 02, §6): choices-ascend.
+-- The rows of a trial of shops without partners stand in ascending order of their lists: choices-ascend.
 use Prim.Native.Nat.{ℕ, zero, suc, ◌-◌, ◌<◌}
 use native.Mathlib.Omega.{arith}
 use native.Mathlib.Decide.{dec_lt}

@@ -1,13 +1,11 @@
--- Laws of offers that are set aside (document 02, §4 and §6).
---   yardstick-..                      what figures are compared with, as the code finds it
+-- Laws of offers that are set aside.
 --   untested-listed                   a zero stays a zero under a change of sign, and equal figures are equal in every listing
 --   live-length, live_at              the offers that take part: offer i where it has been tested
 --   live-fits, live-columns, live-bit     the same as a mask
 --   figures_at-length                 an offer has a figure for each pair or shop
 --   every-difference, every-shop      an offer has not been tested exactly where each of its differences in the record is 0, or each of its figures that of the first shop
---   alike-.., untested-is             one offer's figures, from the j-th on, as the code tests them
+--   same_bits, each_alike             two figures compared by their bits, and one offer's figures each with the same
 --   mask_from, mask-..                the mask of the offers from i on, as the code makes it
---   slice-end, slice-length           the code's slice of an offer's figures: where it ends, and how long it is
 use Prim.Native.Nat.{ℕ, zero, suc, ◌+◌, ◌-◌, ◌*◌, ◌/◌, ◌%◌, ◌^◌, ◌≤◌, ◌<◌}
 use native.Mathlib.Omega.{arith}
 use mathlib.Core.Path.{◌≡◌, refl, sym, ap, ap₂, ◌∙◌, subst}
@@ -16,19 +14,19 @@ use mathlib.Core.Bool.{Bool, true, false, not, ◌&&◌}
 use mathlib.Core.List.{List, [], ◌∷◌, map}
 use lib.ListN.{length, get_or, take, drop, length-map, length-drop, drop_of_length-le}
 use lib.Seq.{drop-cons, length-take-le}
-use lib.Dec.{T, eqb, eqb-suc-zero}
+use lib.Dec.{T, eqb, eqb→eq, eqb-suc-zero}
 use lib.IntN.{ℤ, pos, negsuc}
 use lib.Pow.{pow_mono}
-use lib.Signed.{mag}
 use mir.Syntax.{w32}
 use mir.Val.{SFits, to_z, of_z}
 use mir.Facts.{to_z-of_z}
+use borrow.Author.Tests.{eq-eqb}
+use Rattle.std.specs.List.{list_all}
 use Rattle.order.specs.Counting.{bit, all}
 use Rattle.order.specs.Lists.{rows_of}
-use Rattle.order.proofs.Booleans.{T_false, T_true, and_both}
+use Rattle.order.proofs.Booleans.{same_test, true-T, and_both}
 use Rattle.order.proofs.Counts.{all_get_d}
 use Rattle.order.proofs.Lists.{part-rows, get_d_map, rows_of-length, rows_of-row, row-entry}
-use Rattle.order.proofs.Slices.{all-turn, all-out, all_end}
 use Rattle.columns.specs.Columns.{Columns, in_set, columns_of, mask_of}
 use Rattle.columns.proofs.Sets.{has}
 use Rattle.columns.proofs.Masks.{columns_of-mask_of, mask_of-lt, has-columns_of}
@@ -64,14 +62,6 @@ zeros-exchanged g [] = refl
 zeros-exchanged g (d ∷ ds) = ap₂ (λ (a b : Bool). a && b) (zero-exchanged (eqb (g % 2) 1) d) (zeros-exchanged (g / 2) ds)
 
 -- ---- by cases of the layout
-
-pub yardstick-zero : (d : Design) (xs : List ℤ) {n : ℕ} → d ≡ Paired n → pos 0 ≡ yardstick d xs
-unfolding yardstick
-yardstick-zero d xs e = ap (λ (x : Design). yardstick x xs) (sym e)
-
-pub yardstick-first : (d : Design) (xs : List ℤ) {n t : ℕ} → d ≡ Unpaired n t → mag (get_or xs 0 (pos 0)) < 2 ^ 31 → to_z w32 (of_z w32 (get_or xs 0 (pos 0))) ≡ yardstick d xs
-unfolding yardstick
-yardstick-first d xs e f = to_z-of_z {w = w32} (record { sfits = f }) ∙ ap (λ (x : Design). yardstick x xs) (sym e)
 
 pub untested-listed : (d : Design) (g : ℕ) (xs : List ℤ) → g < row_count d → length xs ≡ units_of d → untested d (listed d g xs) ≡ untested d xs
 unfolding untested yardstick listed row_count units_of
@@ -165,32 +155,17 @@ module _ (t : Trial) (ty : ArrayLengths t) (acc : Accepted t) (i : ℕ) (h : i <
 
 -- ---- the code: one offer's figures
 
--- a figure is tested by its bits, and what it is compared with is kept in its own
-module _ (z : ℤ) (g : SFits w32 z) (xs : List ℤ) where
-  abbrev kept : ℤ
-  kept = to_z w32 (of_z w32 z)
+-- two figures are compared by their bits
+pub same_bits : (x y : ℤ) → SFits w32 x → SFits w32 y → eqb (of_z w32 x) (of_z w32 y) ≡ same_figure x y
+same_bits x y f g =
+    same_test (eqb (of_z w32 x) (of_z w32 y)) (same_figure x y)
+    (λ t. subst (λ (z : ℤ). T (same_figure x z)) (sym (to_z-of_z f) ∙ ap (to_z w32) (eqb→eq (of_z w32 x) (of_z w32 y) t) ∙ to_z-of_z g) (own-figure x))
+    (λ t. true-T (eqb (of_z w32 x) (of_z w32 y)) (eq-eqb (of_z w32 x) (of_z w32 y) (ap (of_z w32) (same-figure x y t))))
 
-  pub alike-start : alike z xs ≡ alike kept xs
-  alike-start = ap (λ (y : ℤ). alike y xs) (sym (to_z-of_z g))
-
-  module _ (j : ℕ) where
-    pub alike-out : j < length xs → (of_z w32 (get_or xs j (pos 0)) ≡ of_z w32 z → ⊥) → alike kept (drop j xs) ≡ false
-    unfolding alike
-    alike-out h e = rw (to_z-of_z g) (all-out (λ x. same_figure x z) xs j (pos 0) h (T_false (same_figure (get_or xs j (pos 0)) z) (λ t. e (ap (of_z w32) (same-figure (get_or xs j (pos 0)) z t)))))
-
-    pub alike-turn : j < length xs → mag (get_or xs j (pos 0)) < 2 ^ 31 → of_z w32 (get_or xs j (pos 0)) ≡ of_z w32 z → alike kept (drop j xs) ≡ alike kept (drop (j + 1) xs)
-    unfolding alike
-    alike-turn h f e =
-        let w : get_or xs j (pos 0) ≡ kept = sym (to_z-of_z {w = w32} (record { sfits = f })) ∙ ap (to_z w32) e in
-        all-turn (λ x. same_figure x kept) xs j (pos 0) h (ap (λ (x : ℤ). same_figure x kept) w ∙ T_true (same_figure kept kept) (own-figure kept))
-
-    pub alike_end : length xs ≤ j → alike kept (drop j xs) ≡ true
-    unfolding alike
-    alike_end h = all_end (λ x. same_figure x kept) xs j (pos 0) h
-
-pub untested-is : (d : Design) (xs : List ℤ) (z : ℤ) → SFits w32 z → (b : Bool) → z ≡ yardstick d xs → b ≡ alike (to_z w32 (of_z w32 z)) xs → b ≡ untested d xs
-unfolding untested
-untested-is d xs z g b e q = q ∙ ap (λ (y : ℤ). alike y xs) (to_z-of_z g ∙ e)
+pub each_alike : (z : ℤ) (xs : List ℤ) → list_all (λ x. same_figure x z) xs ≡ alike z xs
+unfolding alike all
+each_alike z [] = refl
+each_alike z (x ∷ xs) = ap (λ (b : Bool). same_figure x z && b) (each_alike z xs)
 
 -- ---- the code: from the last offer to the first
 
@@ -213,12 +188,6 @@ module _ (d : Design) (offers n : ℕ) (xs : List ℤ) where
       let l : length (drop i tested) ≤ offers_most = simp length-drop (omega (arith, tested-length)) in
       let p : 2 ^ length (drop i tested) ≤ 2 ^ offers_most = pow_mono l in
       omega (arith, mask_of-lt (drop i tested))
-
-  pub slice-end : (i : ℕ) → 0 < i → i ≤ offers → (i - 1) * n + n ≤ offers * n
-  slice-end i h k = part-rows offers n (i - 1) (omega arith)
-
-  pub slice-length : (i : ℕ) → 0 < i → i ≤ offers → offers * n ≤ length xs → length (take ((i - 1) * n + n - (i - 1) * n) (drop ((i - 1) * n) xs)) ≡ n
-  slice-length i h k l = let e : (i - 1) * n + n - (i - 1) * n ≡ n = omega arith in rw e (length-take-le n (drop ((i - 1) * n) xs) (simp length-drop (omega (arith, slice-end i h k))))
 
   pub mask-turn : (i m r : ℕ) (b : Bool) → 0 < i → i ≤ offers → m ≡ mask_from i → b ≡ untested d (take ((i - 1) * n + n - (i - 1) * n) (drop ((i - 1) * n) xs)) → r ≡ bit (not b) + 2 * m
       → r ≡ mask_from (i - 1)

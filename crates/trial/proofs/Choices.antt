@@ -1,4 +1,4 @@
--- Laws of the choices of shops (document 02, §6).
+-- Laws of the choices of shops.
 --   choice-length, choice-size    the choice of a row is one of all shops, and has as many as are treated
 --   binomial n t                  how many choices of t of n shops there are: choices-length
 --   choices-more                  those with the first shop, and those without it

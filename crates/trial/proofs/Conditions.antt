@@ -1,98 +1,79 @@
 -- Laws by which the checks of a record are proved.
---   digits-..                        the tests of 5, one after the other
---   earlier-..                       one more number, the last first (6)
---   offer-judged, offer-beyond       the conditions of one place, as the code tests them
---   figure-before                    one more figure, the last first (7)
+--   earlier_any                      an earlier number, looked for in the order of the record (6)
+--   offer_beyond                     beyond the last place
 --   offer-same                       numbers and digits that agree are judged alike
---   heading-..                       4, what the layout adds, and 3
---   refusal-..                       each answer is the first condition of the record's list that holds
-use Prim.Native.Nat.{ℕ, zero, suc, ◌+◌, ◌-◌, ◌^◌, ◌≤◌, ◌<◌}
+--   difference_low, difference-high  a difference out of range, tested at each end (7)
+--   figures_any                      figures are turned away where one of them is
+--   heading_err, offers_err, figures_left     a record is turned away for its heading, then for its offers, then for its figures
+--   places_held                      past the heading, no more offers and figures than the record has places for
+use Prim.Native.Nat.{ℕ, zero, suc, ◌≤◌, ◌<◌}
+use native.Mathlib.Numerals.{add-one}
 use native.Mathlib.Omega.{arith}
 use mathlib.Core.Path.{◌≡◌, refl, sym, ap, ap₂, ◌∙◌, subst}
 use mathlib.Core.Bool.{Bool, true, false, cond, ◌||◌}
 use mathlib.Core.List.{List, [], ◌∷◌, ◌++◌}
 use lib.ListN.{length, get_or, take, get_or-eq_default}
-use lib.Seq.{get_or-take}
-use lib.Dec.{T, leb, eqb}
+use lib.Seq.{get_or-take, length-take-le}
+use lib.Dec.{T, eqb, eqb-zero-suc, eqb-suc-zero, eqb-suc-suc}
 use lib.IntN.{ℤ, pos, negsuc}
-use lib.Signed.{lt_z, mag}
-use mir.Syntax.{w32}
-use mir.Val.{to_z, of_z}
-use mir.Facts.{to_z-of_z}
-use borrow.Author.Tests.{ltb-true, ltb-false, lt-ltb, le-ltb, eq-eqb, ne_eqb}
-use Rattle.limits.specs.Limits.{offers_most, units_most, digits_most, difference_most}
-use Rattle.order.proofs.Booleans.{or-holds, or-passes, holds, passes}
-use Rattle.refusals.specs.Answers.{r3, r5, r6, r7, Checks, places_from, first_refusal}
-use Rattle.refusals.specs.Limits.{outside, bad_columns, bad_level}
-use Rattle.refusals.proofs.Answers.{none-holds, none-append, judged, judged-last, first-decides, first_passes}
-use Rattle.refusals.proofs.Places.{places_left, place-decides, place-passes, places_same}
-use Rattle.refusals.proofs.Limits.{inside, fitting}
+use lib.Signed.{lt_z}
+use borrow.Author.Tests.{ltb-true, ltb-false, lt-ltb, le-ltb}
+use Rattle.std.proofs.Common.{Result, Ok, Err}
+use Rattle.std.specs.List.{list_any}
+use Rattle.std.proofs.lemmas.List.Folds.{list_any_more}
+use Rattle.limits.specs.Limits.{offers_most, units_most, difference_most}
+use Rattle.refusals.specs.Answers.{r3, r7, Checks, places_from, outcome, refused_where}
+use Rattle.refusals.specs.Limits.{bad_level}
+use Rattle.refusals.specs.declared.refusal.Refusal.{Refusal}
+use Rattle.refusals.specs.declared.refusal.Refusal.TheVariants.{Digits, Figure}
+use Rattle.refusals.proofs.Answers.{none-append, ok-none, ok-append, err-append}
+use Rattle.refusals.proofs.Places.{places_same}
+use Rattle.refusals.proofs.Limits.{fitting}
 use Rattle.trial.specs.Designs.{design_checks, units_of}
 use Rattle.trial.specs.Record.{figure_count, setting_of, figures_of}
-use Rattle.trial.specs.Refusals.{bad_digits, among, bad_difference, heading_checks, earlier, offer_checks, figure_checks, nth, content_checks, trial_checks, trial_refusal}
+use Rattle.trial.specs.Refusals.{bad_digits, among, bad_difference, heading_checks, earlier, offer_checks, figure_checks, nth, content_checks, trial_checks}
 use Rattle.trial.specs.declared.Level.{Level}
 use Rattle.trial.specs.declared.Shape.{Shape}
 use Rattle.trial.specs.declared.Trial.{Trial}
 use Rattle.trial.proofs.LaidOut.{laid_out}
-
--- ---- 5
-
-abbrev pub limits : List ℕ
-limits = 1 ∷ 10 ∷ 100 ∷ 1000 ∷ 10000 ∷ 100000 ∷ 1000000 ∷ 10000000 ∷ []
-
-limit : (d : ℕ) → d ≤ digits_most → get_or limits d 0 ≡ 10 ^ d
-limit zero h = refl
-limit (suc zero) h = refl
-limit (suc (suc zero)) h = refl
-limit (suc (suc (suc zero))) h = refl
-limit (suc (suc (suc (suc zero)))) h = refl
-limit (suc (suc (suc (suc (suc zero))))) h = refl
-limit (suc (suc (suc (suc (suc (suc zero)))))) h = refl
-limit (suc (suc (suc (suc (suc (suc (suc zero))))))) h = refl
-limit (suc (suc (suc (suc (suc (suc (suc (suc d)))))))) h = absurd (omega arith)
-
-pub digits-most : (d : ℕ) (b : Bool) → b ≡ outside 1 digits_most d → b ≡ false → d ≤ digits_most
-digits-most d b e h = (inside 1 digits_most d (sym e ∙ h)).1
-
-module _ (c d : ℕ) (b : Bool) (e : b ≡ outside 1 digits_most d) where
-  pub digits-outside : b ≡ true → true ≡ bad_digits c d
-  unfolding bad_digits
-  digits-outside h = or-holds (outside 1 digits_most d) (leb (10 ^ d) c) (sym e ∙ h)
-
-  pub digits-few : b ≡ false → leb (get_or limits d 0) c ≡ bad_digits c d
-  unfolding bad_digits
-  digits-few h = or-passes (outside 1 digits_most d) (leb (10 ^ d) c) (leb (get_or limits d 0) c) (sym e ∙ h) (ap (λ (n : ℕ). leb n c) (limit d (digits-most d b e h)))
+use Rattle.trial.proofs.Places.{places_shift}
 
 -- ---- 6
 
-module _ (code : ℕ → ℕ) (c j : ℕ) where
-  earlier_more : 0 < j → among c (earlier code j) ≡ (eqb c (code (j - 1)) || among c (earlier code (j - 1)))
-  unfolding among earlier
-  earlier_more h = let e : j ≡ suc (j - 1) = omega arith in ap (λ (n : ℕ). among c (earlier code n)) e
+-- two numbers are equal in either order
+eqb-turn : (m n : ℕ) → eqb m n ≡ eqb n m
+eqb-turn zero zero = refl
+eqb-turn zero (suc n) = eqb-zero-suc n ∙ sym (eqb-suc-zero n)
+eqb-turn (suc m) zero = eqb-suc-zero m ∙ sym (eqb-zero-suc m)
+eqb-turn (suc m) (suc n) = eqb-suc-suc m n ∙ eqb-turn m n ∙ sym (eqb-suc-suc n m)
 
-  pub earlier-hit : 0 < j → c ≡ code (j - 1) → among c (earlier code j) ≡ true
-  earlier-hit h e = earlier_more h ∙ ap (λ (b : Bool). b || among c (earlier code (j - 1))) (eq-eqb c (code (j - 1)) e)
+or-turn : (b c : Bool) → (b || c) ≡ (c || b)
+or-turn true true = refl
+or-turn true false = refl
+or-turn false true = refl
+or-turn false false = refl
 
-  pub earlier-turn : 0 < j → (c ≡ code (j - 1) → ⊥) → among c (earlier code j) ≡ among c (earlier code (j - 1))
-  earlier-turn h e = earlier_more h ∙ ap (λ (b : Bool). b || among c (earlier code (j - 1))) (ne_eqb c (code (j - 1)) e)
-
-  pub earlier-none : j ≤ 0 → among c (earlier code j) ≡ false
-  unfolding among earlier
-  earlier-none h = let e : j ≡ 0 = omega arith in rw e
-
--- 5 before 6, as the code tests them
-pub offer-judged : (code digits : ℕ → ℕ) (i : ℕ) (b q : Bool) (s r : ℕ) → b ≡ bad_digits (code i) (digits i) → q ≡ among (code i) (earlier code i) → s ≡ cond q 6 0 → r ≡ cond b 5 s
-    → r ≡ first_refusal (offer_checks code digits i)
-offer-judged code digits i b q s r e g six five = judged b _ r5 r e _ s (judged-last q _ r6 s g six) five
+-- the first i numbers, in the order of the record
+pub earlier_any : (xs : List ℕ) (c i : ℕ) → i ≤ length xs → list_any (λ y. eqb y c) (take i xs) ≡ among c (earlier (nth xs 0) i)
+unfolding among earlier
+earlier_any xs c zero h = refl
+earlier_any xs c (suc i) h =
+    ap (λ (j : ℕ). list_any (λ y. eqb y c) (take j xs)) (sym (add-one i)) ∙ list_any_more (λ y. eqb y c) xs i 0 (omega arith)
+    ∙ or-turn (list_any (λ y. eqb y c) (take i xs)) (eqb (get_or xs i 0) c)
+    ∙ ap₂ ◌||◌ (eqb-turn (get_or xs i 0) c) (earlier_any xs c i (omega arith))
 
 -- beyond the last place no digits are printed
 zero-digits : (c : ℕ) → bad_digits c 0 ≡ true
 unfolding bad_digits
 zero-digits c = refl
 
-pub offer-beyond : (codes digits : List ℕ) (i : ℕ) → length digits ≤ i → 5 ≡ first_refusal (offer_checks (nth codes 0) (nth digits 0) i)
-unfolding first_refusal
-offer-beyond codes digits i h = holds (bad_digits (get_or codes i 0) (get_or digits i 0)) 5 _ (ap (bad_digits (get_or codes i 0)) (get_or-eq_default digits 0 h) ∙ zero-digits (get_or codes i 0))
+-- one condition that refuses
+pub refused_is : {r e : Refusal} (b : Bool) → Err e ≡ refused_where b r → (b ≡ true) × (e ≡ r)
+refused_is true h = (refl, cc)
+refused_is false h = cc
+
+pub offer_beyond : (codes digits : List ℕ) (i : ℕ) → length digits ≤ i → outcome (offer_checks (nth codes 0) (nth digits 0) i) (tt {0}) ≡ Err Digits
+offer_beyond codes digits i h = rw (get_or-eq_default digits 0 h, zero-digits (get_or codes i 0))
 
 -- numbers and digits that agree are judged alike
 module _ (f g d e : ℕ → ℕ) (n : ℕ) (h : (j : ℕ) → j < n → f j ≡ g j) (k : (j : ℕ) → j < n → d j ≡ e j) where
@@ -124,24 +105,24 @@ module _ (x d : ℤ) (e : x ≡ d) where
   pub difference-high : lt_z x (negsuc 134217726) ≡ false → lt_z (pos difference_most) x ≡ bad_difference d
   difference-high h = ap (lt_z (pos difference_most)) e ∙ bad-high d (ap (λ (z : ℤ). lt_z z (negsuc 134217726)) (sym e) ∙ h)
 
--- one figure, as the code reads it from its bits
-figure-judged : (xs : List ℤ) (i : ℕ) (b : Bool) → mag (get_or xs i (pos 0)) < 2 ^ 31 → b ≡ bad_difference (to_z w32 (of_z w32 (get_or xs i (pos 0)))) → (r : ℕ) → r ≡ cond b 7 0
-    → r ≡ first_refusal (figure_checks (nth xs (pos 0)) i)
-figure-judged xs i b fits e r f = judged-last b _ r7 r (e ∙ ap bad_difference (to_z-of_z {w = w32} (record { sfits = fits }))) f
-
--- a figure before those that are judged already
-pub figure-before : (xs : List ℤ) (n i j : ℕ) (b : Bool) → i < n → i + 1 ≡ j → mag (get_or xs i (pos 0)) < 2 ^ 31 → b ≡ bad_difference (to_z w32 (of_z w32 (get_or xs i (pos 0)))) → (r s : ℕ)
-    → r ≡ first_refusal (places_left (figure_checks (nth xs (pos 0))) n j) → s ≡ cond b 7 r → s ≡ first_refusal (places_left (figure_checks (nth xs (pos 0))) n i)
-figure-before xs n i j true h k fits e r s p q = q ∙ sym (place-decides (figure_checks (nth xs (pos 0))) n i h 7 (figure-judged xs i true fits e 7 refl) (λ z. absurd (omega (arith, z))))
-figure-before xs n i j false h k fits e r s p q =
-    q ∙ p ∙ ap (λ (m : ℕ). first_refusal (places_left (figure_checks (nth xs (pos 0))) n m)) (sym k) ∙ sym (place-passes (figure_checks (nth xs (pos 0))) n i h 0 (figure-judged xs i false fits e 0 refl) refl)
+-- figures are turned away where one of them is
+pub figures_any : (xs : List ℤ) → outcome (places_from (figure_checks (nth xs (pos 0))) 0 (length xs)) (tt {0}) ≡ refused_where (list_any bad_difference xs) Figure
+unfolding places_from
+figures_any [] = refl
+figures_any (x ∷ xs) =
+    ap (λ (cs : Checks). outcome ((bad_difference x, r7) ∷ cs) tt) (places_shift (figure_checks (nth (x ∷ xs) (pos 0))) 0 (length xs))
+    ∙ go (bad_difference x) (outcome (places_from (figure_checks (nth xs (pos 0))) 0 (length xs)) tt) (figures_any xs)
+  where
+    go : (b : Bool) (later : Result (Unit {0}) Refusal) → later ≡ refused_where (list_any bad_difference xs) Figure → cond b (Err Figure) later ≡ refused_where (b || list_any bad_difference xs) Figure
+    go true later e = refl
+    go false later e = e
 
 -- ---- the checks of a record, in order
 
 abbrev offers_part : Trial → Checks
 offers_part t = places_from (offer_checks (nth (setting_of t).codes 0) (nth (setting_of t).digits 0)) 0 t.shape.offers
 
-abbrev figures_part : Trial → Checks
+abbrev pub figures_part : Trial → Checks
 figures_part t = places_from (figure_checks (nth (figures_of t) (pos 0))) 0 (figure_count t.shape)
 
 -- in the arrays
@@ -151,57 +132,39 @@ offers-held t =
     let same : (xs : List ℕ) (j : ℕ) → j < n → get_or (take n xs) j 0 ≡ get_or xs j 0 = λ xs j l. get_or-take n xs j 0 l in
     places_same _ _ n (offer-same (nth (take n t.labels.codes) 0) (nth t.labels.codes 0) (nth (take n t.labels.digits) 0) (nth t.labels.digits 0) n (same t.labels.codes) (same t.labels.digits))
 
-figures-held : (t : Trial) → figures_part t ≡ places_from (figure_checks (nth t.figures (pos 0))) 0 (figure_count t.shape)
-figures-held t =
-    let n = figure_count t.shape in
-    places_same (figure_checks (nth (figures_of t) (pos 0))) (figure_checks (nth t.figures (pos 0))) n (λ j l. ap (λ (x : ℤ). (bad_difference x, r7) ∷ []) (get_or-take n t.figures j (pos 0) l))
+-- the figures that the counts use, as a slice
+pub figures_sliced : (t : Trial) (n : ℕ) → n ≡ figure_count t.shape → n ≤ length t.figures
+    → outcome (places_from (figure_checks (nth (take n t.figures) (pos 0))) 0 (length (take n t.figures))) (tt {0}) ≡ outcome (figures_part t) (tt {0})
+figures_sliced t n e h =
+    ap₂ (λ (m k : ℕ). outcome (places_from (figure_checks (nth (take m t.figures) (pos 0))) 0 k) (tt {0})) e (length-take-le n t.figures h ∙ e)
 
--- 4, then what the layout adds, then 3
-module _ (l : Level) (s : Shape) (b : Bool) (counts : b ≡ bad_columns offers_most s.offers s.k) where
-  abbrev level_checks : Checks
-  level_checks = (bad_level l.a l.b, r3) ∷ []
+-- a record is turned away for its heading, then for its offers, then for its figures
+module _ (t : Trial) where
+  abbrev pub offers_here : Checks
+  offers_here = places_from (offer_checks (nth t.labels.codes 0) (nth t.labels.digits 0)) 0 t.shape.offers
 
-  pub heading-counts : b ≡ true → 4 ≡ first_refusal (heading_checks l s)
-  unfolding heading_checks first_refusal
-  heading-counts h = holds (bad_columns offers_most s.offers s.k) 4 (first_refusal (design_checks s.design ++ level_checks)) (sym counts ∙ h)
+  trial_parts : trial_checks t ≡ heading_checks t.level t.shape ++ (offers_here ++ figures_part t)
+  unfolding trial_checks content_checks
+  trial_parts = ap (λ (cs : Checks). heading_checks t.level t.shape ++ (cs ++ figures_part t)) (offers-held t)
 
-  module _ (h : b ≡ false) (r : ℕ) (e : r ≡ first_refusal (design_checks s.design)) where
-    past-counts : first_refusal (design_checks s.design ++ level_checks) ≡ first_refusal (heading_checks l s)
-    unfolding heading_checks first_refusal
-    past-counts = passes (bad_columns offers_most s.offers s.k) 4 (first_refusal (design_checks s.design ++ level_checks)) _ (sym counts ∙ h) refl
+  module _ (a b : Unit {0}) where
+    pub heading_err : (r : Refusal) → outcome (heading_checks t.level t.shape) a ≡ Err r → outcome (trial_checks t) b ≡ Err r
+    heading_err r e = ap (λ (cs : Checks). outcome cs b) trial_parts ∙ err-append (heading_checks t.level t.shape) (offers_here ++ figures_part t) a b r e
 
-    pub heading-layout : (r ≡ 0 → ⊥) → r ≡ first_refusal (heading_checks l s)
-    heading-layout z = sym (first-decides (design_checks s.design) level_checks r e z) ∙ past-counts
+    module _ (x : Unit {0}) (h : outcome (heading_checks t.level t.shape) a ≡ Ok x) where
+      past_heading : outcome (trial_checks t) b ≡ outcome (offers_here ++ figures_part t) b
+      past_heading = ap (λ (cs : Checks). outcome cs b) trial_parts ∙ ok-append (heading_checks t.level t.shape) (offers_here ++ figures_part t) a x b h
 
-    pub heading-level : r ≡ 0 → (q : Bool) → q ≡ bad_level l.a l.b → (n : ℕ) → n ≡ cond q 3 0 → n ≡ first_refusal (heading_checks l s)
-    heading-level z q f n g = judged-last q _ r3 n f g ∙ sym (first_passes (design_checks s.design) level_checks r e z) ∙ past-counts
+      pub offers_err : (r : Refusal) → outcome offers_here a ≡ Err r → outcome (trial_checks t) b ≡ Err r
+      offers_err r e = past_heading ∙ err-append offers_here (figures_part t) a b r e
 
-module _ (t : Trial) (r : ℕ) (heading : r ≡ first_refusal (heading_checks t.level t.shape)) where
-  pub refusal-heading : (r ≡ 0 → ⊥) → r ≡ trial_refusal t
-  unfolding trial_refusal trial_checks content_checks
-  refusal-heading h = sym (first-decides (heading_checks t.level t.shape) (offers_part t ++ figures_part t) r heading h)
+      pub figures_left : outcome offers_here a ≡ Ok x → outcome (trial_checks t) b ≡ outcome (figures_part t) b
+      figures_left e = past_heading ∙ ok-append offers_here (figures_part t) a x b e
 
-  module _ (passed : r ≡ 0) where
-    -- no more offers and figures than the record has places for
-    pub places-held : (t.shape.offers ≤ offers_most) × (units_of t.shape.design ≤ units_most)
-    unfolding heading_checks
-    places-held =
-        let f = none-holds (heading_checks t.level t.shape) (sym heading ∙ passed) in
-        let l = none-append (design_checks t.shape.design) ((bad_level t.level.a t.level.b, r3) ∷ []) f.1 in
-        ((fitting offers_most t.shape.offers t.shape.k f.0).columns-most, (laid_out t.shape.design l.0).units-most)
-
-    module _ (o : ℕ) (judged-offers : o ≡ first_refusal (places_from (offer_checks (nth t.labels.codes 0) (nth t.labels.digits 0)) 0 t.shape.offers)) where
-      offers : o ≡ first_refusal (offers_part t)
-      offers = judged-offers ∙ ap first_refusal (sym (offers-held t))
-
-      past-heading : trial_refusal t ≡ first_refusal (offers_part t ++ figures_part t)
-      unfolding trial_refusal trial_checks content_checks
-      past-heading = first_passes (heading_checks t.level t.shape) (offers_part t ++ figures_part t) r heading passed
-
-      pub refusal-offers : (o ≡ 0 → ⊥) → o ≡ trial_refusal t
-      refusal-offers h = sym (past-heading ∙ first-decides (offers_part t) (figures_part t) o offers h)
-
-      pub refusal-figures : o ≡ 0 → (n d : ℕ) → n ≡ figure_count t.shape → d ≡ first_refusal (places_from (figure_checks (nth t.figures (pos 0))) 0 n) → d ≡ trial_refusal t
-      refusal-figures h n d q e =
-          e ∙ ap (λ (m : ℕ). first_refusal (places_from (figure_checks (nth t.figures (pos 0))) 0 m)) q ∙ ap first_refusal (sym (figures-held t))
-          ∙ sym (past-heading ∙ first_passes (offers_part t) (figures_part t) o offers h)
+-- past the heading, no more offers and figures than the record has places for
+pub places_held : (l : Level) (s : Shape) → outcome (heading_checks l s) (tt {0}) ≡ Ok tt → (s.offers ≤ offers_most) × (units_of s.design ≤ units_most)
+unfolding heading_checks
+places_held l s h =
+    let f = ok-none (heading_checks l s) tt tt h in
+    let g = none-append (design_checks s.design) ((bad_level l.a l.b, r3) ∷ []) f.1 in
+    ((fitting offers_most s.offers s.k f.0).columns-most, (laid_out s.design g.0).units-most)

@@ -1,5 +1,5 @@
--- The trial W of document 01: the sums of its rows, and that none of its settings is refused. Trials with offers that are set aside (document 02, §4), and trials of
--- shops without partners (§6).
+-- The trial W of the samples: the sums of its rows, and that none of its settings is refused. Trials with offers that are set aside, and trials of
+-- shops without partners.
 --   w-sums                              the sums of W's rows
 --   w-settings-accepted                 no setting of W is refused
 --   live-examples, accepted-examples    which offers of W and of these trials take part, and that none of these trials is refused

@@ -5,14 +5,12 @@
 --   layout-known                     an accepted layout whose case is known
 --   rows-shift, rows-chosen          M as a shift, and as the number of choices
 --   count_at                         the table of the numbers of choices
---   shops-outside, pairs-judged, shops-judged     the code's test of a layout
 --   count-is, count_most             how many figures a trial has
 --   entry-small                      an entry is a whole number up to 2^53
 use Prim.Native.Nat.{ℕ, ◌-◌, ◌*◌, ◌%◌, ◌^◌, ◌≤◌, ◌<◌}
 use native.Mathlib.Omega.{arith}
 use native.Mathlib.Nat.{one-mul, mul-le-mul}
 use mathlib.Core.Path.{◌≡◌, sym, ap, ◌∙◌}
-use mathlib.Core.Bool.{Bool, true, cond}
 use mathlib.Core.List.{List, [], ◌∷◌}
 use lib.ListN.{length, get_or}
 use lib.Dec.{T, eqb, eqb→eq}
@@ -21,13 +19,12 @@ use lib.Pow.{pow_mono, pow_pos, shl_exact}
 use Rattle.limits.specs.Limits.{offers_most, pairs_most, shops_most, units_most, figures_most, trial_rows_most}
 use Rattle.order.specs.Counting.{all}
 use Rattle.order.specs.Lists.{tabulate}
-use Rattle.order.proofs.Booleans.{or-holds}
-use Rattle.refusals.specs.Answers.{r4, r15, first_refusal}
+use Rattle.refusals.specs.Answers.{first_refusal}
 use Rattle.refusals.specs.Limits.{outside}
-use Rattle.refusals.proofs.Answers.{NoneHolds, none-holds, judged-last}
+use Rattle.refusals.proofs.Answers.{NoneHolds, none-holds}
 use Rattle.refusals.proofs.Limits.{or-none, inside}
 use Rattle.trial.specs.Choices.{choices, choice_at}
-use Rattle.trial.specs.Designs.{bad_shops, design_checks, units_of, row_count, entry_of}
+use Rattle.trial.specs.Designs.{design_checks, units_of, row_count, entry_of}
 use Rattle.trial.specs.Record.{figure_count}
 use Rattle.trial.specs.Internal.{Ranged}
 use Rattle.trial.specs.declared.Design.{Design}
@@ -116,18 +113,6 @@ count_at n t h k =
     eqb→eq (get_or (get_or counts n []) t 0) (binomial n t)
     (at-number (λ t. eqb (get_or (get_or counts n []) t 0) (binomial n t)) 11 t (at-number (λ n. all (λ t. eqb (get_or (get_or counts n []) t 0) (binomial n t)) (tabulate 11 (λ t. t))) 11 n counted (omega arith)) (omega arith))
     ∙ sym (choices-length n t)
-
--- the test of a layout
-pub shops-outside : (n t : ℕ) (b : Bool) → b ≡ outside 2 shops_most n → b ≡ true → true ≡ bad_shops n t
-shops-outside n t b e h = or-holds (outside 2 shops_most n) (outside 1 (n - 1) t) (sym e ∙ h)
-
-pub pairs-judged : (d : Design) (n r : ℕ) (b : Bool) → d ≡ Paired n → b ≡ outside 1 pairs_most n → r ≡ cond b 4 0 → r ≡ first_refusal (design_checks d)
-unfolding design_checks
-pairs-judged d n r b e q f = judged-last b (outside 1 pairs_most n) r4 r q f ∙ ap (λ (x : Design). first_refusal (design_checks x)) (sym e)
-
-pub shops-judged : (d : Design) (n t r : ℕ) (b : Bool) → d ≡ Unpaired n t → b ≡ bad_shops n t → r ≡ cond b 15 0 → r ≡ first_refusal (design_checks d)
-unfolding design_checks
-shops-judged d n t r b e q f = judged-last b (bad_shops n t) r15 r q f ∙ ap (λ (x : Design). first_refusal (design_checks x)) (sym e)
 
 -- how many figures
 pub count-is : (s : Shape) (n : ℕ) → n ≡ units_of s.design → s.offers * n ≡ figure_count s

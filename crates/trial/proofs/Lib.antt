@@ -8,6 +8,7 @@ pub mod LaidOut
 pub mod Accepted
 pub mod Tables
 pub mod Aside
+pub mod Places
 pub mod Conditions
 pub mod Calls
 pub mod Unused

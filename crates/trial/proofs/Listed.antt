@@ -1,4 +1,4 @@
--- Laws of figures as a run lists them, those of the chosen shops first (document 02, §6).
+-- Laws of figures as a run lists them, those of the chosen shops first.
 --   chosen_first-length, -size   a listing has as many figures, and a listed choice has as many shops
 --   spread c h                   the shops that a choice h of places has in the listing of c
 --   spread-length, spread-size   it is a choice of as many shops, and has as many

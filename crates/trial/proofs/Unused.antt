@@ -17,14 +17,14 @@ use lib.Ieee.{Float, binary64, of_int}
 use Rattle.limits.specs.Limits.{offers_most, figures_most}
 use Rattle.order.specs.Lists.{tabulate, rows_of, joined, padded}
 use Rattle.columns.specs.Columns.{mask_of}
-use Rattle.refusals.specs.Answers.{Checks, answer, first_refusal, afterwards}
+use Rattle.refusals.specs.Answers.{Checks, outcome, first_refusal, afterwards}
 use Rattle.refusals.specs.Buffers.{too_short, written}
 use Rattle.trial.specs.Designs.{units_of, row_count, entry_of, untested}
 use Rattle.trial.specs.Record.{ArrayLengths, figure_count, Contents, contents, filled, trimmed, Same}
 use Rattle.trial.specs.Exchange.{by_offer, row_total, row_of, trial_rows, table_of}
 use Rattle.trial.specs.Aside.{live_offers, live_mask}
 use Rattle.trial.specs.Refusals.{content_checks, trial_checks, trial_refusal}
-use Rattle.trial.specs.Lent.{refused_size, size_of, table_call_checks, table_call_refusal, table_buffer}
+use Rattle.trial.specs.Lent.{size_of, table_call_checks, table_call_refusal, table_buffer}
 use Rattle.trial.specs.declared.Trial.{Trial}
 use Rattle.trial.proofs.LaidOut.{count_most}
 use Rattle.trial.proofs.Accepted.{accepted}
@@ -94,9 +94,7 @@ module _ (t u : Trial) (s : Same t u) where
   pub size_same : size_of t ≡ size_of u
   unfolding size_of row_total trial_checks live_mask live_offers by_offer live_from
   size_same =
-      ap (λ (c : Contents). answer (content_checks c)
-      (record { refusal = 0; rows = row_count c.setting.shape.design; columns = c.setting.shape.offers; live = live_from c })
-      refused_size) s
+      ap (λ (c : Contents). outcome (content_checks c) (record { rows = row_count c.setting.shape.design; columns = c.setting.shape.offers; live = live_from c })) s
 
   calls_same : (places : ℕ) → table_call_checks t places ≡ table_call_checks u places
   unfolding table_call_checks

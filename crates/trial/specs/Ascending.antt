@@ -1,4 +1,4 @@
--- The order of lists of numbers (document 02, §6: the rows of a trial of shops without partners stand in it). Definitions only.
+-- The order of lists of numbers (the rows of a trial of shops without partners stand in it). Definitions only.
 --   before xs ys     one list comes before another, number by number, as words do in a dictionary
 use Rattle.std.specs.Prelude.{ℕ, Bool, true, false, ◌&&◌, ◌||◌, List, [], ◌∷◌, ltb, eqb}
 

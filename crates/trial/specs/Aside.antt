@@ -1,4 +1,4 @@
--- Offers that are set aside (document 02, §4 and §6). Definitions only.
+-- Offers that are set aside. Definitions only.
 --   live_offers t    which offers take part: those that have been tested
 --   live_mask t      the same as a mask: bit i says that offer i (from 0) takes part
 use Rattle.std.specs.Prelude.{ℕ, not, map}

@@ -1,4 +1,4 @@
--- Shops without partners (document 02, §6): which of them are called treated. Definitions only.
+-- Shops without partners: which of them are called treated. Definitions only.
 --   Choice                   a choice of shops: a Bool for each shop, true where it is chosen
 --   choices shops treated    all choices of so many shops, in ascending order of their lists
 --   choice_at shops treated g   the choice of row g

@@ -8,8 +8,8 @@
 --   entry_of d g xs       the whole number in row g of an offer with the figures xs
 --   listed d g xs        what run g of demand 3 lists as the figures of an idle offer that has the figures xs
 --   yardstick d xs       what the figures xs are compared with: 0 in pairs, the first figure in shops
---   untested d xs        an offer with the figures xs has not been tested and is set aside: every difference is 0 (document 02, §4), or the
---                        figures are equal in all shops (§6)
+--   untested d xs        an offer with the figures xs has not been tested and is set aside: every difference is 0, or the
+--                        figures are equal in all shops
 use Rattle.std.specs.Prelude.{ℕ, ◌-◌, ◌^◌, Bool, false, ◌||◌, List, [], ◌∷◌, eqb, length, get_or, ℤ, pos, negsuc}
 use Rattle.limits.specs.Limits.{pairs_most, shops_most}
 use Rattle.order.specs.Counting.{all}

@@ -1,4 +1,4 @@
--- The trial W of document 01 as a record, trials with offers that are set aside (document 02, §4), and trials of shops without partners (§6): places that the counts
+-- The trial W of the samples as a record, trials with offers that are set aside, and trials of shops without partners: places that the counts
 -- don't use hold zero. Definitions only.
 --   trial_with a b k   W at level a/b with tolerance k
 --   trial_w            W as printed: at 1/4 with k 1

@@ -1,4 +1,4 @@
--- From the figures of a trial to its table (document 01; document 02, §6). Definitions only.
+-- From the figures of a trial to its table. Definitions only.
 --   row_total t         M: the rows of a trial's table
 --   by_offer t          the figures of each offer
 --   figures_at t i      those of offer i (from 0)

@@ -1,4 +1,4 @@
--- Pairs of shops (document 01): what an exchange does to differences. Definitions only.
+-- Pairs of shops: what an exchange does to differences. Definitions only.
 --   exchanged b d        a difference, with its sign changed where the shops of its pair are exchanged
 --   signed_sum g ds      the sum of differences, that of pair j (from 0) exchanged where bit j of g is 1
 --   exchanged_by g ds    the differences, each exchanged where its bit of g is 1

@@ -1,8 +1,8 @@
--- The record and what of it is used. Document 01: places that the counts don't use hold zero, and nothing looks at them. Definitions only.
+-- The record and what of it is used. Places that the counts don't use hold zero, and nothing looks at them. Definitions only.
 --   ArrayLengths t     what every value of the record's type has: places for the largest trial
 --   figure_count s     how many figures a trial of this shape has
 --   Setting            all of a trial but its figures: level, shape, codes and printed digits
---   Contents           a trial as document 01 knows it: its setting and its figures
+--   Contents           a trial with nothing else: its setting and its figures
 --   setting_of t, figures_of t, contents t    those of a record
 --   filled c           the record of these contents: unused places hold zero
 --   blank              the record that holds nothing but zeros

@@ -1,13 +1,14 @@
 // How a trial was laid out: all that goes by its cases, in the words of specs/Designs.
 ghost use Rattle.std.specs.Prelude.{◌≡◌, length, ◌≤◌};
 ghost use Rattle.limits.specs.Limits.{offers_most, shops_most, units_most, figures_most};
-ghost use Rattle.refusals.specs.Answers.{first_refusal};
+ghost use Rattle.refusals.specs.Answers.{outcome, first_refusal};
 ghost use Rattle.trial.specs.Choices.{choices};
-ghost use Rattle.trial.specs.Designs.{bad_shops, design_checks, units_of, row_count, alike, yardstick, untested};
+ghost use Rattle.trial.specs.Designs.{bad_shops, design_checks, units_of, row_count, same_figure, alike, yardstick, untested};
 ghost use Rattle.trial.specs.Record.{figure_count};
 
 use crate::{Design, Shape};
 use limits::{PAIRS_MOST, SHOPS_MOST};
+use refusals::Refusal;
 
 // How many choices of t of n shops there are: row n, place t.
 const CHOICES: [[u8; 11]; 11] = [
@@ -25,6 +26,7 @@ const CHOICES: [[u8; 11]; 11] = [
 ];
 
 // The figures of an offer.
+#[tactic(auto, unfolding(crate::specs::Designs::units_of))]
 pub fn units(d: Design) -> usize
     ensures { result ≡ units_of d }
 {
@@ -38,19 +40,17 @@ pub fn units(d: Design) -> usize
 fn bad_shops(shops: usize, treated: usize) -> bool
     ensures { result ≡ bad_shops shops treated }
 {
-    if refusals::outside(2, SHOPS_MOST, shops) {
-        return true;
-    }
-    refusals::outside(1, shops - 1, treated)
+    refusals::outside(2, SHOPS_MOST, shops) || refusals::outside(1, shops - 1, treated)
 }
 
 // The refusal of a layout: 4 where the pairs are out of range, 15 where the shops or the treated ones are.
-pub fn design_refusal(d: Design) -> u32
-    ensures { result ≡ first_refusal (design_checks d) }
+#[tactic(auto, unfolding(crate::specs::Designs::design_checks))]
+pub fn check_design(d: Design) -> Result<(), Refusal>
+    ensures { result ≡ outcome (design_checks d) tt }
 {
     match d {
-        Design::Paired(pairs) => crate::first_of(refusals::outside(1, PAIRS_MOST, pairs), 4, 0),
-        Design::Unpaired(shops, treated) => crate::first_of(bad_shops(shops, treated), 15, 0),
+        Design::Paired(pairs) => Refusal::Sizes.if_true(refusals::outside(1, PAIRS_MOST, pairs)),
+        Design::Unpaired(shops, treated) => Refusal::Shops.if_true(bad_shops(shops, treated)),
     }
 }
 
@@ -59,7 +59,7 @@ pub fn choice_count(shops: usize, treated: usize) -> usize
     requires { (shops ≤ shops_most) × (treated ≤ shops_most) }
     ensures { result ≡ length (choices shops treated) }
 {
-    CHOICES[shops][treated] as usize
+    usize::from(CHOICES[shops][treated])
 }
 
 // M: a row for each way to exchange the shops of pairs, or for each choice of shops.
@@ -74,15 +74,16 @@ pub(crate) fn rows(d: Design) -> usize
 }
 
 // How many figures a trial of this shape has.
+#[tactic(auto, unfolding(crate::specs::Record::figure_count), using(crate::proofs::LaidOut::count_most))]
 pub(crate) fn figure_count(shape: Shape) -> usize
     requires { (shape.offers ≤ offers_most) × (units_of shape.design ≤ units_most) }
     ensures { (result ≡ figure_count shape) × (result ≤ figures_most) }
 {
-    let design = shape.design;
-    shape.offers * units(design)
+    shape.offers * units(shape.design)
 }
 
 // What all figures of an offer are where it has not been tested: 0, or what the first shop has.
+#[tactic(auto, unfolding(crate::specs::Designs::yardstick))]
 fn yardstick(d: Design, figures: &[i32]) -> i32
     requires { 1 ≤ length figures.now }
     ensures { result ≡ yardstick d figures.now }
@@ -93,21 +94,23 @@ fn yardstick(d: Design, figures: &[i32]) -> i32
     }
 }
 
+// Whether two figures are equal.
+#[tactic(auto, using(crate::proofs::Aside::same_bits))]
+fn same(x: i32, y: i32) -> bool
+    ensures { result ≡ same_figure x y }
+{
+    x == y
+}
+
 // Whether every figure equals z.
 fn alike(z: i32, figures: &[i32]) -> bool
     ensures { result ≡ alike z figures.now }
 {
-    let mut j: usize = 0;
-    while j < figures.len() {
-        if figures[j] != z {
-            return false;
-        }
-        j += 1;
-    }
-    true
+    figures.iter().all(|&x| same(x, z))
 }
 
 // Whether an offer with these figures has not been tested.
+#[tactic(auto, unfolding(crate::specs::Designs::untested))]
 pub(crate) fn untested(d: Design, figures: &[i32]) -> bool
     requires { 1 ≤ length figures.now }
     ensures { result ≡ untested d figures.now }

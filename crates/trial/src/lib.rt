@@ -7,14 +7,17 @@ mod designs; // how a trial was laid out: all that goes by its cases
 mod live; // the offers that take part
 
 // Conditions that a file's values are judged by too.
-pub use checks::{bad_difference, bad_digits, first_of, offer_refusal};
+pub use checks::{bad_difference, bad_digits, check_offer};
 // How a trial was laid out, where a file is judged and a table made.
 ghost use Rattle.std.specs.Prelude.{◌≡◌};
-ghost use Rattle.trial.specs.Refusals.{trial_refusal};
+ghost use Rattle.refusals.specs.Answers.{outcome};
+ghost use Rattle.trial.specs.Record.{blank};
+ghost use Rattle.trial.specs.Refusals.{trial_checks};
 ghost use Rattle.trial.specs.Lent.{size_of};
 
-pub use designs::{choice_count, design_refusal, units};
+pub use designs::{check_design, choice_count, units};
 use limits::{FIGURES_MOST, OFFERS_MOST};
+use refusals::Refusal;
 
 // The level a/b, as written.
 #[derive(Clone, Copy)]
@@ -38,7 +41,7 @@ pub struct Shape {
     pub design: Design,
 }
 
-// Each offer's number, and how many digits of it are printed.
+// Each offer's number, and how many digits of it are printed. Two lists, as the theorems say it: `setting_of` (specs/Record), `ArrayLengths`.
 #[derive(Clone, Copy)]
 pub struct Labels {
     pub codes: [u32; OFFERS_MOST],
@@ -56,54 +59,50 @@ pub struct Trial {
     pub figures: [i32; FIGURES_MOST],
 }
 
-// The size of a trial's table and the offers that take part (bit i: offer i, from 0) with the refusal 0, or the number of the refusal with zeros.
+// The size of a trial's table and the offers that take part (bit i: offer i, from 0).
 #[derive(Clone, Copy)]
 pub struct TableSize {
-    pub refusal: u32,
     pub rows: usize,
     pub columns: usize,
     pub live: u32,
 }
 
-// The number of the refusal that a trial meets first, and 0 where it is accepted.
-pub fn check(t: Trial) -> u32
-    ensures { result ≡ trial_refusal t }
+// The trial that holds nothing but zeros.
+pub fn blank() -> Trial
+    ensures { result ≡ blank }
 {
-    let level = t.level;
-    let shape = t.shape;
-    let f = checks::heading(level, shape);
-    if f != 0 {
-        return f;
+    Trial {
+        level: Level { a: 0, b: 0 },
+        shape: Shape {
+            k: 0,
+            offers: 0,
+            design: Design::Paired(0),
+        },
+        labels: Labels {
+            codes: [0; OFFERS_MOST],
+            digits: [0; OFFERS_MOST],
+        },
+        figures: [0; FIGURES_MOST],
     }
-    let labels = t.labels;
-    let r = checks::offers(labels, shape.offers);
-    if r != 0 {
-        return r;
-    }
-    let figures = t.figures;
-    let n = designs::figure_count(shape);
-    checks::figures(&figures, n)
+}
+
+// The refusal that a trial meets first.
+pub fn check(t: Trial) -> Result<(), Refusal>
+    ensures { result ≡ outcome (trial_checks t) tt }
+{
+    checks::heading(t.level, t.shape)?;
+    checks::offers(&t.labels, t.shape.offers)?;
+    checks::figures(&t.figures[..designs::figure_count(t.shape)])
 }
 
 // The size of a trial's table, M rows and a column for each offer, and which offers take part.
-pub fn size(t: Trial) -> TableSize
+pub fn size(t: Trial) -> Result<TableSize, Refusal>
     ensures { result ≡ size_of t }
 {
-    let refusal = check(t);
-    if refusal != 0 {
-        return TableSize {
-            refusal,
-            rows: 0,
-            columns: 0,
-            live: 0,
-        };
-    }
-    let shape = t.shape;
-    let design = shape.design;
-    TableSize {
-        refusal: 0,
-        rows: designs::rows(design),
-        columns: shape.offers,
+    check(t)?;
+    Ok(TableSize {
+        rows: designs::rows(t.shape.design),
+        columns: t.shape.offers,
         live: live::mask(t),
-    }
+    })
 }

@@ -12,10 +12,7 @@ fn with_first(later: u32, aside: bool) -> u32
     requires { later < 2 ^ 31 }
     ensures { result ≡ bit (not aside) + 2 * later }
 {
-    if aside {
-        return 2 * later;
-    }
-    2 * later + 1
+    2 * later + u32::from(!aside)
 }
 
 // The offers that take part, looked at from the last to the first.
@@ -23,16 +20,10 @@ pub(crate) fn mask(t: Trial) -> u32
     requires { (t.shape.offers ≤ offers_most) × (1 ≤ units_of t.shape.design) × (units_of t.shape.design ≤ units_most) }
     ensures { result ≡ live_mask t }
 {
-    let shape = t.shape;
-    let design = shape.design;
-    let figures = t.figures;
-    let n = designs::units(design);
+    let n = designs::units(t.shape.design);
     let mut m: u32 = 0;
-    let mut i = shape.offers;
-    while 0 < i {
-        i -= 1;
-        let at = i * n;
-        let aside = designs::untested(design, &figures[at..at + n]);
+    for i in (0..t.shape.offers).rev() {
+        let aside = designs::untested(t.shape.design, &t.figures[i * n..i * n + n]);
         m = with_first(m, aside);
     }
     m

@@ -6,9 +6,9 @@ use mathlib.Core.Path.{◌≡◌, sym, ap, ap₂, ◌∙◌}
 use mathlib.Core.List.{List}
 use lib.Ieee.{Float}
 use Rattle.order.specs.Lists.{rows_of}
-use Rattle.refusals.specs.Answers.{Checks, answer}
+use Rattle.refusals.specs.Answers.{Checks, outcome}
 use Rattle.adjustment.specs.Adjusted.{adjusted_figures}
-use Rattle.adjustment.specs.Answers.{accepted_figures, refused_figures}
+use Rattle.adjustment.specs.Answers.{accepted_figures}
 use Rattle.adjustment.specs.declared.Adjusted.{Adjusted}
 use Rattle.trial.specs.Aside.{live_mask}
 use Rattle.trial.specs.Exchange.{row_total, table_of}
@@ -34,4 +34,4 @@ module _ (t u : Trial) (s : Same t u) where
 
   pub answer-same : (places work : ℕ) → trial_figures_answer t places work ≡ trial_figures_answer u places work
   unfolding trial_figures_answer
-  answer-same places work = ap₂ (λ (cs : Checks) (a : Adjusted). answer cs a refused_figures) (asked-same t u s places work) (ap₂ (λ (m : ℕ) (fs : List ℕ). accepted_figures m fs) (rows_same t u s) figures-same)
+  answer-same places work = ap₂ (λ (cs : Checks) (a : Adjusted). outcome cs a) (asked-same t u s places work) (ap₂ (λ (m : ℕ) (fs : List ℕ). accepted_figures m fs) (rows_same t u s) figures-same)

@@ -8,30 +8,32 @@ ghost use Rattle.trialadjustment.specs.FileFigures.{file_figures};
 
 use adjustment::Adjusted;
 use limits::{TRIAL_ROWS_MOST, TRIAL_TABLE_MOST};
+use refusals::Refusal;
 use trial::Trial;
 
 // The figures of a trial: of its table, with row 0 observed and the offers set aside that have not been tested, whose figure is M. The table buffer then
 // holds the table, and the work buffer plus zero.
-pub fn trial_figures(t: Trial, table: &mut [f64], work: &mut [f64]) -> Adjusted
+pub fn trial_figures(t: Trial, table: &mut [f64], work: &mut [f64]) -> Result<Adjusted, Refusal>
     ensures value { result ≡ trial_figures_answer t (length table.old) (length work.old) }
     ensures table_after { table.new ≡ run_table t table.old (length work.old) }
     ensures work_after { work.new ≡ run_work t (length table.old) work.old }
 {
-    let s = trialrun::table_for_run(t, table, work.len());
-    if s.refusal != 0 {
-        return adjustment::refused(s.refusal);
-    }
-    let total = s.rows * s.columns;
-    engine::clear(work, s.rows);
-    let figures = figuring::all_figures(&table[..total], s.rows, s.columns, t.shape.k, 0, s.live);
-    Adjusted {
-        refusal: 0,
-        rows: s.rows,
-        figures,
-    }
+    let size = trialrun::table_for_run(t, table, work.len())?;
+    let rows = size.rows;
+    let total = rows * size.columns;
+    engine::clear(work, rows);
+    let figures = figuring::all_figures(
+        &table[..total],
+        rows,
+        size.columns,
+        t.shape.k,
+        0,
+        size.live,
+    );
+    Ok(Adjusted { rows, figures })
 }
 
-// What a file's figures answer: `adjusted.refusal` is 0, or the number by which the file is turned away; then the trial holds nothing but zeros.
+// What an accepted file's figures answer: its trial, and the figures.
 #[derive(Clone, Copy)]
 pub struct FileFigures {
     pub trial: Trial,
@@ -39,20 +41,12 @@ pub struct FileFigures {
 }
 
 // Reads a file and works out the figures of its trial. The buffers are those of the largest trial.
-pub fn file_figures(file: &[u8]) -> FileFigures
+pub fn file_figures(file: &[u8]) -> Result<FileFigures, Refusal>
     ensures { result ≡ file_figures file.now }
 {
-    let reading = trialfile::read(file);
-    let trial = reading.trial;
-    let n = reading.refusal;
-    if n != 0 {
-        return FileFigures {
-            trial,
-            adjusted: adjustment::refused(n),
-        };
-    }
+    let trial = trialfile::read(file)?;
     let mut table = [0.0f64; TRIAL_TABLE_MOST];
     let mut work = [0.0f64; TRIAL_ROWS_MOST];
-    let adjusted = trial_figures(trial, &mut table, &mut work);
-    FileFigures { trial, adjusted }
+    let adjusted = trial_figures(trial, &mut table, &mut work)?;
+    Ok(FileFigures { trial, adjusted })
 }

@@ -2,6 +2,7 @@
 --   rankable                       the table in its buffer can be ranked
 --   few-rows                       there is a place for each row in a space for the largest trial
 --   table-room                     the table buffer, once the table is ranked, holds it
+--   table-kept                     the table buffer of a refused call
 --   table_is, table-left           the balanced table then stands at its front, and the buffer after an accepted call
 --   balanced-checked, balanced-rows     it can be run, and its rows are the balanced ones
 --   balanced_run-table             the balanced full run, by that table
@@ -41,8 +42,10 @@ use Rattle.trial.specs.Refusals.{trial_refusal}
 use Rattle.trial.proofs.Accepted.{Accepted, accepted}
 use Rattle.trial.proofs.Aside.{live-length}
 use Rattle.trial.proofs.Tables.{trial_rows-length, trial_rows-sound, table_of-length, table_of-rows, row_total-some}
+use Rattle.std.proofs.Common.{Ok, Err}
+use Rattle.refusals.specs.declared.refusal.Refusal.{Refusal}
 use Rattle.trialrun.specs.TrialRuns.{trial_start, trial_run, run_size, run_table}
-use Rattle.trialrun.proofs.Tabled.{free, rows_are, columns-are, same_total, good, filled, front, asked}
+use Rattle.trialrun.proofs.Tabled.{changed, turned-buffer, rows_are, columns-are, same_total, good, filled, front, asked}
 use Rattle.trialrun.proofs.Runs.{table-accepted, start-all}
 use Rattle.trialrun.specs.Bars.{Remaining}
 use Rattle.trialrun.proofs.Bars.{trial-set-by, trial-offer}
@@ -50,32 +53,32 @@ use Rattle.trialrun.proofs.Without.{Without, run-without, remaining_table, remai
 use Rattle.trialbalance.specs.TrialBalance.{trial_balanced, trial_balanced_run, run_balanced}
 use Rattle.trialbalance.proofs.Parts.{balanced-part}
 
-module _ (t : Trial) (table work : List Float) (s : TableSize) (q : s ≡ run_size t (length table) (length work)) (w : List Float) (e : w ≡ run_table t table (length work)) (z : s.refusal ≡ 0) where
+module _ (t : Trial) (table work : List Float) (s : TableSize) (q : run_size t (length table) (length work) ≡ Ok s) (w : List Float) (e : w ≡ run_table t table (length work)) where
   abbrev total : ℕ
   total = s.rows * s.columns
 
   pub few-rows : s.rows ≤ trial_rows_most
   unfolding row_total
-  few-rows = omega (arith, rows_are t table work s q w e z, (good t table work s q w e z).laid.rows-most)
+  few-rows = omega (arith, rows_are t table work s q, (good t table work s q).laid.rows-most)
 
   pub rankable : Rankable (take total w) s.rows s.columns
   rankable =
-      let acc = tables.accepted (table_of t) (row_total t) t.shape.offers t.shape.k t.level.a t.level.b 0 (table-accepted t (good t table work s q w e z)) in
+      let acc = tables.accepted (table_of t) (row_total t) t.shape.offers t.shape.k t.level.a t.level.b 0 (table-accepted t (good t table work s q)) in
       let g = acc.shaped in
-      rw (front t table work s q w e z, rows_are t table work s q w e z, columns-are t table work s q w e z) (record { full = acc.full; finitely = acc.finitely; rows-most = g.rows-most; columns-some = g.columns-some; columns-most = g.columns-most })
+      rw (front t table work s q w e, rows_are t table work s q, columns-are t table work s q) (record { full = acc.full; finitely = acc.finitely; rows-most = g.rows-most; columns-some = g.columns-some; columns-most = g.columns-most })
 
   -- u is the table, ranked
   module _ (u : List Float) (r : u ≡ balanced_table (take total w) s.rows s.columns) where
     ranked : u ≡ trial_balanced t
     unfolding trial_balanced
-    ranked = r ∙ asked t table work s q w e z balanced_table (take total w) (table_of t) (front t table work s q w e z)
+    ranked = r ∙ asked t table work s q balanced_table (take total w) (table_of t) (front t table work s q w e)
 
     table-length : length (table_of t) ≡ total
-    table-length = table_of-length t ∙ sym (same_total t table work s q w e z)
+    table-length = table_of-length t ∙ sym (same_total t table work s q)
 
     balanced-length : length (trial_balanced t) ≡ total
     unfolding trial_balanced
-    balanced-length = balanced_table-length (table_of t) (row_total t) t.shape.offers (table_of-length t) ∙ sym (same_total t table work s q w e z)
+    balanced-length = balanced_table-length (table_of t) (row_total t) t.shape.offers (table_of-length t) ∙ sym (same_total t table work s q)
 
     pub table-room : total ≤ length (u ++ drop total w)
     table-room = omega (arith, length-append u (drop total w), ap length ranked, balanced-length)
@@ -83,7 +86,7 @@ module _ (t : Trial) (table work : List Float) (s : TableSize) (q : s ≡ run_si
     buffer : u ++ drop total w ≡ written (trial_balanced t) table
     buffer =
         ap₂ (λ (x y : List Float). x ++ y) ranked
-        (ap (drop total) (filled t table work s q w e z)
+        (ap (drop total) (filled t table work s q w e)
         ∙ drop_at (table_of t) (drop (length (table_of t)) table) total table-length
         ∙ ap (λ (n : ℕ). drop n table) (table-length ∙ sym balanced-length))
 
@@ -92,7 +95,12 @@ module _ (t : Trial) (table work : List Float) (s : TableSize) (q : s ≡ run_si
 
     pub table-left : u ++ drop total w ≡ run_balanced t table (length work)
     unfolding run_balanced
-    table-left = buffer ∙ free t table work s q w e z (written (trial_balanced t) table) (λ _. table)
+    table-left = buffer ∙ sym (changed t table work s q (written (trial_balanced t) table) table)
+
+-- the table buffer of a refused call, of either run
+pub table-kept : (t : Trial) (table work : List Float) (r : Refusal) → run_size t (length table) (length work) ≡ Err r → run_table t table (length work) ≡ run_balanced t table (length work)
+unfolding run_table run_balanced
+table-kept t table work r q = turned-buffer t table work r q _ _ ∙ sym (turned-buffer t table work r q _ _)
 
 -- ---- the balanced table of an accepted trial
 

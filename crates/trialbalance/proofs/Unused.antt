@@ -8,10 +8,10 @@ use mathlib.Core.Path.{◌≡◌, sym, ap, ap₂, ◌∙◌}
 use mathlib.Core.List.{List}
 use lib.ListN.{length}
 use lib.Ieee.{Float}
-use Rattle.refusals.specs.Answers.{Checks, answer, afterwards}
+use Rattle.refusals.specs.Answers.{Checks, outcome, afterwards}
 use Rattle.refusals.specs.Buffers.{written}
 use Rattle.runs.specs.Stepdown.{Outcome}
-use Rattle.runs.specs.FullRuns.{accepted_run, refused_run}
+use Rattle.runs.specs.FullRuns.{accepted_run}
 use Rattle.balance.specs.Balance.{balanced_table}
 use Rattle.trial.specs.Exchange.{row_total, table_of}
 use Rattle.trial.specs.Record.{Same}
@@ -31,7 +31,7 @@ module _ (t u : Trial) (s : Same t u) where
 
   pub answer-same : (places work : ℕ) → trial_balanced_answer t places work ≡ trial_balanced_answer u places work
   unfolding trial_balanced_answer
-  answer-same places work = ap₂ (λ (cs : Checks) (o : Outcome). answer cs (accepted_run o) refused_run) (asked-same t u s places work) run-same
+  answer-same places work = ap₂ (λ (cs : Checks) (o : Outcome). outcome cs (accepted_run o)) (asked-same t u s places work) run-same
 
   pub run_balanced-same : (buf : List Float) (work : ℕ) → run_balanced t buf work ≡ run_balanced u buf work
   unfolding run_balanced

@@ -1,5 +1,6 @@
--- Examples: W's file is read as document 01 prints it, and those of trials with offers that are set aside (document 02, §4) and of shops without partners (§6); which
+-- Examples: W's file is read as it is printed, and those of trials with offers that are set aside and of shops without partners; which
 -- refusals some other files meet.
+use Rattle.std.proofs.Common.{Ok}
 use mathlib.Core.Path.{◌≡◌, refl}
 use mathlib.Core.List.{[], ◌∷◌, map}
 use Rattle.trial.specs.Examples.{trial_w, trial_aside, trial_cancelled, trial_zeros, trial_shops, two_shops, ten_shops}
@@ -7,15 +8,15 @@ use Rattle.words.specs.Words.{bytes_of, signed}
 use Rattle.trialfile.specs.Files.{file_refusal, reading_of}
 use Rattle.trialfile.specs.Examples.{words_w, words_twice, words_surplus, words_after, words_aside, words_cancelled, words_zeros, words_shops, words_two_shops, words_ten_shops, words_shaped}
 
-pub read-W : reading_of (bytes_of words_w) ≡ record { refusal = 0; trial = trial_w }
+pub read-W : reading_of (bytes_of words_w) ≡ Ok trial_w
 unfolding reading_of words_w trial_w signed bytes_of
 read-W = refl
 
-pub read-aside : (reading_of (bytes_of words_aside) ≡ record { refusal = 0; trial = trial_aside }) × (reading_of (bytes_of words_cancelled) ≡ record { refusal = 0; trial = trial_cancelled }) × (reading_of (bytes_of words_zeros) ≡ record { refusal = 0; trial = trial_zeros })
+pub read-aside : (reading_of (bytes_of words_aside) ≡ Ok trial_aside) × (reading_of (bytes_of words_cancelled) ≡ Ok trial_cancelled) × (reading_of (bytes_of words_zeros) ≡ Ok trial_zeros)
 unfolding reading_of words_aside words_cancelled words_zeros trial_aside trial_cancelled trial_zeros signed bytes_of
 read-aside = (refl, refl, refl)
 
-pub read-shops : (reading_of (bytes_of words_shops) ≡ record { refusal = 0; trial = trial_shops }) × (reading_of (bytes_of words_two_shops) ≡ record { refusal = 0; trial = two_shops }) × (reading_of (bytes_of words_ten_shops) ≡ record { refusal = 0; trial = ten_shops 9 })
+pub read-shops : (reading_of (bytes_of words_shops) ≡ Ok trial_shops) × (reading_of (bytes_of words_two_shops) ≡ Ok two_shops) × (reading_of (bytes_of words_ten_shops) ≡ Ok (ten_shops 9))
 unfolding reading_of words_shops words_two_shops words_ten_shops trial_shops two_shops ten_shops signed bytes_of
 read-shops = (refl, refl, refl)
 

@@ -1,6 +1,6 @@
 -- What is said of a file takes no notice of what comes after one byte more than the longest file; and what is known of the labels of an accepted one.
 --   too_long       a longer input is refused by 1
---   file-cut       what is answered for the first `input_room` bytes is what is answered for them all
+--   file-cut, outcome_cut     what is answered for the first `input_room` bytes is what is answered for them all
 --   printed        what it is for an offer to pass 5
 --   digits-few     the printed digits of an accepted trial's offers are few
 use Prim.Native.Nat.{ℕ, ◌%◌, ◌^◌, ◌≤◌, ◌<◌}
@@ -15,7 +15,10 @@ use lib.Seq.{take_all, length-take-le, get_or-take}
 use lib.Dec.{leb, ltb, eqb}
 use borrow.Author.Tests.{lt-ltb, leb-false}
 use Rattle.limits.specs.Limits.{digits_most, longest_file, input_room}
-use Rattle.refusals.specs.Answers.{answer, first_refusal}
+use Rattle.refusals.specs.Answers.{answer, outcome, first_refusal}
+use Rattle.std.proofs.Common.{Result, Err}
+use Rattle.refusals.specs.declared.refusal.Refusal.{Refusal}
+use Rattle.refusals.specs.declared.refusal.Refusal.TheVariants.{FileLength}
 use Rattle.refusals.specs.Limits.{outside}
 use Rattle.refusals.proofs.Answers.{refused}
 use Rattle.refusals.proofs.Limits.{or-none, inside}
@@ -51,6 +54,27 @@ module _ {A : Type 0} (done : List ℕ → A) (refusing : ℕ → A) where
       go : Dec (length bytes ≤ input_room) → said (take input_room bytes) ≡ said bytes
       go (yes h) = ap said (take_all input_room bytes h)
       go (no h) = said-long (take input_room bytes) (omega (arith, length-take-le input_room bytes (omega (arith, h)))) ∙ sym (said-long bytes (omega (arith, h)))
+
+module _ {A : Type 0} (done : List ℕ → A) where
+  abbrev told : List ℕ → Result A Refusal
+  told bytes = outcome (file_checks bytes) (done (words_of bytes))
+
+  told-long : (bytes : List ℕ) → longest_file < length bytes → told bytes ≡ Err FileLength
+  unfolding bad_length file_checks
+  told-long bytes h = go (eqb (length bytes) 0) (not (eqb (length bytes % 4) 0)) (ltb longest_file (length bytes)) (lt-ltb longest_file (length bytes) h)
+    where
+      go : (x y z : Bool) → z ≡ true → cond (x || (y || z)) (Err FileLength) (outcome (place_checks (words_of bytes)) (done (words_of bytes))) ≡ Err FileLength
+      go true y z e = refl
+      go false true z e = refl
+      go false false true e = refl
+      go false false false e = absurd (false≢true e)
+
+  pub outcome_cut : (bytes : List ℕ) → told (take input_room bytes) ≡ told bytes
+  outcome_cut bytes = go (dec_le (length bytes) input_room)
+    where
+      go : Dec (length bytes ≤ input_room) → told (take input_room bytes) ≡ told bytes
+      go (yes h) = ap told (take_all input_room bytes h)
+      go (no h) = told-long (take input_room bytes) (omega (arith, length-take-le input_room bytes (omega (arith, h)))) ∙ sym (told-long bytes (omega (arith, h)))
 
 pub printed : (c d : ℕ) → bad_digits c d ≡ false → (c < 16777216) × (d ≤ digits_most)
 unfolding bad_digits

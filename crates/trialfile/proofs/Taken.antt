@@ -1,11 +1,12 @@
 -- Laws for reading: what an accepted file's shape fits into, and the answer.
 --   shape-fits, file-long     the counts of an accepted file's shape, and that its words are there
 --   trial-read       the trial made of its parts
---   read-refusal     the number that reading answers is the file's refusal
---   read_taken       reading an accepted file answers 0 and its trial
+--   read-refusal     the number in what reading answers is that of the file's refusal
+--   read_taken       reading an accepted file answers its trial
+--   file_accepted    a file that is not refused is accepted
+--   read_known       what an answer with a trial tells
 --   read-accepted    the trial of an accepted file is accepted
 --   read-lengths     and its arrays have their lengths
---   refused, taken   the answer, as the code makes it
 use Prim.Native.Nat.{ℕ, ◌+◌, ◌*◌, ◌≤◌}
 use native.Mathlib.Omega.{arith}
 use mathlib.Core.Path.{◌≡◌, refl, sym, ap, ap₂, ◌∙◌, subst}
@@ -14,11 +15,12 @@ use lib.ListN.{length}
 use lib.IntN.{ℤ, pos}
 use Rattle.limits.specs.Limits.{offers_most, units_most, figures_most}
 use Rattle.order.specs.Lists.{tabulate, padded}
-use Rattle.refusals.specs.Answers.{first_refusal}
-use Rattle.refusals.proofs.Answers.{answer-map}
+use Rattle.std.proofs.Common.{Ok}
+use Rattle.refusals.specs.Answers.{outcome, refusal_in}
+use Rattle.refusals.proofs.Answers.{none-holds, none_first, outcome_number, outcome-ok, ok-none, ok-for}
 use Rattle.refusals.proofs.Limits.{fitting}
 use Rattle.trial.specs.Designs.{units_of}
-use Rattle.trial.specs.Record.{ArrayLengths, figure_count, blank}
+use Rattle.trial.specs.Record.{ArrayLengths, figure_count}
 use Rattle.trial.specs.Refusals.{trial_refusal}
 use Rattle.trial.specs.declared.Level.{Level}
 use Rattle.trial.specs.declared.Shape.{Shape}
@@ -28,11 +30,9 @@ use Rattle.words.specs.Words.{words_of, word}
 use Rattle.layouts.specs.Layouts.{level_at, shape_at, layout_of}
 use Rattle.words.specs.Words.{level_in, shape_in}
 use Rattle.trialfile.specs.Files.{code_in, digits_in, figure_in, contents_in, trial_of, file_checks, file_refusal, reading_of}
-use Rattle.trialfile.specs.declared.Reading.{Reading}
 use Rattle.layouts.specs.declared.Layout.{Layout}
 use Rattle.words.proofs.Words.{words_of-length}
 use Rattle.trialfile.proofs.Passed.{trial-accepted, trial-lengths, file-passed}
-use Rattle.refusals.proofs.Answers as answers
 
 pub shape-fits : (bs : List ℕ) → file_refusal bs ≡ 0 → (v : ℕ) (s : Shape) → v ≡ word (words_of bs) shape_at → s ≡ shape_in v → (s.offers ≤ offers_most) × (units_of s.design ≤ units_most)
 shape-fits bs h v s e f =
@@ -73,15 +73,26 @@ pub trial-read : (ws : List ℕ) (w v n : ℕ) (a : Level) (s : Shape) (l : Layo
 trial-read ws w v n a s l cs ds xs e0 e1 e2 e3 e4 e5 ec ed ex =
     made_by ws n a s l cs ds xs e4 e5 ec ed ex ∙ ap₂ (trial_by ws) (e1 ∙ ap level_in e0) (e3 ∙ ap shape_in e2) ∙ sym (trial_of-by ws)
 
--- the refusal in the answer is the file's
-pub read-refusal : (bytes : List ℕ) → (reading_of bytes).refusal ≡ file_refusal bytes
-unfolding reading_of file_refusal first_refusal
-read-refusal bytes = answer-map (λ (r : Reading). r.refusal) (file_checks bytes) (record { refusal = 0; trial = trial_of (words_of bytes) }) (λ n. record { refusal = n; trial = blank })
+-- the number in the answer is that of the file's refusal
+pub read-refusal : (bytes : List ℕ) → refusal_in (reading_of bytes) ≡ file_refusal bytes
+unfolding reading_of file_refusal
+read-refusal bytes = outcome_number (file_checks bytes) (trial_of (words_of bytes))
 
 -- an accepted file's answer is its trial
-pub read_taken : (bytes : List ℕ) → file_refusal bytes ≡ 0 → reading_of bytes ≡ record { refusal = 0; trial = trial_of (words_of bytes) }
+pub read_taken : (bytes : List ℕ) → file_refusal bytes ≡ 0 → reading_of bytes ≡ Ok (trial_of (words_of bytes))
 unfolding reading_of file_refusal
-read_taken bytes h = sym (answers.accepted (record { refusal = 0; trial = trial_of (words_of bytes) }) (λ n. record { refusal = n; trial = blank }) (file_checks bytes) 0 (sym h) refl)
+read_taken bytes h = outcome-ok (file_checks bytes) (trial_of (words_of bytes)) (none-holds (file_checks bytes) h)
+
+-- a file that is not refused is accepted
+pub file_accepted : {A : Type 0} (bytes : List ℕ) (a : A) {x : A} → outcome (file_checks bytes) a ≡ Ok x → file_refusal bytes ≡ 0
+unfolding file_refusal
+file_accepted bytes a h = none_first (file_checks bytes) (ok-none (file_checks bytes) a _ h)
+
+pub read_known : (bytes : List ℕ) (t : Trial) → reading_of bytes ≡ Ok t → (file_refusal bytes ≡ 0) × (t ≡ trial_of (words_of bytes))
+unfolding reading_of
+read_known bytes t h =
+    let e : Ok t ≡ Ok (trial_of (words_of bytes)) = sym h ∙ ok-for (file_checks bytes) (trial_of (words_of bytes)) t (trial_of (words_of bytes)) h in
+    (file_accepted bytes (trial_of (words_of bytes)) h, cc)
 
 module _ (bytes : List ℕ) (h : file_refusal bytes ≡ 0) where
   pub read-accepted : trial_refusal (trial_of (words_of bytes)) ≡ 0
@@ -89,13 +100,3 @@ module _ (bytes : List ℕ) (h : file_refusal bytes ≡ 0) where
 
   pub read-lengths : ArrayLengths (trial_of (words_of bytes))
   read-lengths = trial-lengths (words_of bytes) (file-passed bytes h).words-good
-
-module _ (bs : List ℕ) (n : ℕ) (t : Trial) (e : n ≡ file_refusal bs) where
-  pub refused : (n ≡ 0 → ⊥) → t ≡ blank → record { refusal = n; trial = t } ≡ reading_of bs
-  unfolding reading_of file_refusal
-  refused z b =
-      ap (λ (u : Trial). record { refusal = n; trial = u }) b
-      ∙ answers.refused (record { refusal = 0; trial = trial_of (words_of bs) }) (λ m. record { refusal = m; trial = blank }) (file_checks bs) n e z
-
-  pub taken : n ≡ 0 → t ≡ trial_of (words_of bs) → record { refusal = 0; trial = t } ≡ reading_of bs
-  taken z b = ap (λ (u : Trial). record { refusal = 0; trial = u }) b ∙ sym (read_taken bs (sym e ∙ z))

@@ -1,5 +1,5 @@
 -- Examples of files, as words. Definitions only.
---   words_w        the file of the trial W, as document 01 prints it
+--   words_w        the file of the trial W, as it is printed
 --   words_twice    two offers of one pair, printed 0042 and 42: the same number twice
 --   words_surplus  W's file with a difference too many before the end
 --   words_after    W's file with a word after the end
@@ -8,7 +8,7 @@
 --   words_front    the same with that offer in front of W's
 --   words_cancelled that of two offers with k 2: the differences of 0042 cancel, and those of 7 are 0
 --   words_zeros    that of two offers whose differences are all 0
---   words_shops    the file of two offers in 4 shops, 2 of them treated (document 02, §6)
+--   words_shops    the file of two offers in 4 shops, 2 of them treated
 --   words_two_shops  that of two offers in 2 shops, 1 of them treated
 --   words_ten_shops  that of one offer in 10 shops, 9 of them treated
 --   words_shaped w  a file that goes no further than its shape word w

@@ -1,4 +1,4 @@
--- Reading a trial file (document 01). What a file is turned away for is judged place by place; its trial is read off by position. Definitions only.
+-- Reading a trial file. What a file is turned away for is judged place by place; its trial is read off by position. Definitions only.
 --   code_in, digits_in, figure_in   number and printed digits of offer i, and figure i, in words with a layout
 --   contents_in, trial_of  the contents and the trial that words hold, by position
 --   bad_length bytes       the condition of 1
@@ -10,21 +10,21 @@
 --   place_checks ws        all words, from the start
 --   file_checks bytes      all conditions of a file, in order
 --   file_refusal bytes     the number of the first that holds, or 0
---   reading_of bytes        what reading a file answers: 0 and its trial, or the number of the refusal and the blank trial
-use Rattle.std.specs.Prelude.{ℕ, ◌+◌, ◌%◌, Bool, not, ◌||◌, List, [], ◌∷◌, ◌++◌, length, ltb, eqb, ℤ}
+--   reading_of bytes        what reading a file answers: its trial, or its refusal
+use Rattle.std.specs.Prelude.{ℕ, ◌+◌, ◌%◌, Bool, not, ◌||◌, List, [], ◌∷◌, ◌++◌, length, ltb, eqb, ℤ, Result}
 use Rattle.limits.specs.Limits.{offers_most, longest_file}
 use Rattle.order.specs.Lists.{tabulate}
-use Rattle.refusals.specs.Answers.{r1, r2, r3, r4, r8, Checks, places_from, answer, first_refusal}
+use Rattle.refusals.specs.Answers.{r1, r2, r3, r4, r8, Checks, places_from, outcome, first_refusal}
+use Rattle.refusals.specs.declared.refusal.Refusal.{Refusal}
 use Rattle.refusals.specs.Limits.{bad_columns, bad_level}
 use Rattle.trial.specs.Designs.{design_checks}
-use Rattle.trial.specs.Record.{figure_count, Contents, filled, blank}
+use Rattle.trial.specs.Record.{figure_count, Contents, filled}
 use Rattle.trial.specs.Refusals.{bad_digits, among, bad_difference, earlier, offer_checks, figure_checks}
 use Rattle.trial.specs.declared.Shape.{Shape}
 use Rattle.trial.specs.declared.Trial.{Trial}
 use Rattle.words.specs.Words.{words_of, word, kind_of, level_kind, offer_kind, difference_kind, end_kind, a_of, b_of, level_in, no_shape, spare_of, shape_in, digits_of, code_of, difference_of, count_of}
 use Rattle.layouts.specs.Layouts.{level_at, shape_at, layout_of, offer_at, figure_at}
 use Rattle.layouts.specs.declared.Layout.{Layout}
-use Rattle.trialfile.specs.declared.Reading.{Reading}
 
 -- ---- the trial
 
@@ -97,6 +97,6 @@ file_refusal bytes = first_refusal (file_checks bytes)
 
 -- ---- the answer
 
-unfoldable pub reading_of : List ℕ → Reading
-unfolding answer file_checks trial_of words_of
-reading_of bytes = answer (file_checks bytes) (record { refusal = 0; trial = trial_of (words_of bytes) }) (λ n. record { refusal = n; trial = blank })
+unfoldable pub reading_of : List ℕ → Result Trial Refusal
+unfolding file_checks trial_of words_of
+reading_of bytes = outcome (file_checks bytes) (trial_of (words_of bytes))

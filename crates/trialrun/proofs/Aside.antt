@@ -20,7 +20,7 @@ use Rattle.runs.specs.Stepdown.{full_run}
 use Rattle.runs.specs.FullRuns.{is_aside}
 use Rattle.runs.specs.declared.Verdict.{Verdict}
 use Rattle.runs.specs.declared.Verdict.TheVariants.{Kept, Aside}
-use Rattle.runs.proofs.Told.{verdict-aside, count-live, count-aside, aside-exactly, few-records, few-kept}
+use Rattle.runs.proofs.ToldColumns.{verdict-aside, count-live, count-aside, aside-exactly, few-records, few-kept}
 use Rattle.trial.specs.Aside.{live_offers, live_mask}
 use Rattle.trial.specs.Designs.{untested}
 use Rattle.trial.specs.Exchange.{figures_at, row_total}

@@ -23,7 +23,7 @@ use Rattle.order.proofs.Counts.{all-le}
 use Rattle.order.proofs.Lists.{joined-all, joined_length, rows_of-joined}
 use Rattle.order.proofs.Rows.{Sound, sound_row, sound-all}
 use Rattle.limits.specs.Limits.{tolerance_most, trial_rows_most, table_rows_most}
-use Rattle.refusals.specs.Answers.{answer}
+use Rattle.refusals.specs.Answers.{outcome}
 use Rattle.refusals.specs.Buffers.{cleared}
 use Rattle.refusals.specs.Limits.{bad_sizes, bad_level, allowance}
 use Rattle.refusals.proofs.Answers.{none_first}
@@ -31,7 +31,7 @@ use Rattle.refusals.proofs.Limits.{neither, within, allowance-lt}
 use Rattle.columns.specs.Columns.{full_mask}
 use Rattle.masks.specs.Internal.{CheckedTable}
 use Rattle.runs.specs.Stepdown.{first_state, full_run}
-use Rattle.runs.specs.FullRuns.{accepted_run, refused_run}
+use Rattle.runs.specs.FullRuns.{accepted_run}
 use Rattle.runs.specs.Tables.{table_start, table_run}
 use Rattle.runs.specs.declared.FullRun.{FullRun}
 use Rattle.stepdown.specs.Refusals.{bad_shape, bad_value, table_checks, table_refusal}
@@ -44,7 +44,8 @@ use Rattle.trial.proofs.Accepted.{Accepted}
 use Rattle.trial.proofs.Aside.{live-fits}
 use Rattle.trial.proofs.Tables.{trial_rows-length, trial_rows-sound, row_total-some, table_of-rows}
 use Rattle.trialrun.specs.TrialRuns.{trial_start, trial_run, run_call_checks, run_size, run_table, run_work}
-use Rattle.trialrun.proofs.Tabled.{good, rows_are, columns-are, live-is, work-room, free, asked}
+use Rattle.trialrun.proofs.Tabled.{good, rows_are, columns-are, live-is, work-room, free, changed, asked}
+use Rattle.std.proofs.Common.{Result, Ok}
 
 -- ---- the table of an accepted trial
 
@@ -82,33 +83,33 @@ module _ (t : Trial) (a : Accepted t) where
 
 -- ---- the full run of a table in the trial's buffer
 
-module _ (t : Trial) (table work : List Float) (s : TableSize) (q : s ≡ run_size t (length table) (length work)) (w : List Float) (e : w ≡ run_table t table (length work)) (z : s.refusal ≡ 0) where
+module _ (t : Trial) (table work : List Float) (s : TableSize) (q : run_size t (length table) (length work) ≡ Ok s) where
   acc : Accepted t
-  acc = good t table work s q w e z
+  acc = good t table work s q
 
   pub level-known : (s.rows ≤ table_rows_most) × (bad_level t.level.a t.level.b ≡ false)
-  level-known = (omega (arith, rows_are t table work s q w e z, rows-most t acc), acc.level-good)
+  level-known = (omega (arith, rows_are t table work s q, rows-most t acc), acc.level-good)
 
   -- x is the table of the trial, or one of its size that stands in its place; n is e
   module _ (n : ℕ) (l : n ≡ allowance s.rows t.level.a t.level.b) (x : List Float) (y : List Float) (p : x ≡ y) where
     pub startable : CheckedTable y (row_total t) t.shape.offers t.shape.k → CheckedTable x s.rows s.columns t.shape.k × (n < s.rows) × (0 < s.rows) × (s.live < 2 ^ s.columns) × (s.rows ≤ length work)
-    startable ready = rw (p, l, rows_are t table work s q w e z, columns-are t table work s q w e z, live-is t table work s q w e z)
-        (ready, allowance-lt (row_total t) t.level.a t.level.b (row_total-some t acc) acc.levelled.proper, row_total-some t acc, live-fits t, work-room t table work s q w e z)
+    startable ready = rw (p, l, rows_are t table work s q, columns-are t table work s q, live-is t table work s q)
+        (ready, allowance-lt (row_total t) t.level.a t.level.b (row_total-some t acc) acc.levelled.proper, row_total-some t acc, live-fits t, work-room t table work s q)
 
     started : (X : List (List Float)) → rows_of (row_total t) t.shape.offers y ≡ X
         → full_run (rows_of s.rows s.columns x) (first_state s.rows s.columns t.shape.k n 0 s.live) ≡ full_run X (trial_start t)
     started X r =
-        ap₂ (λ (m v : ℕ). full_run (rows_of s.rows s.columns x) (first_state s.rows s.columns t.shape.k m 0 v)) l (live-is t table work s q w e z)
-        ∙ asked t table work s q w e z (λ u rows columns. full_run (rows_of rows columns u) (first_state rows columns t.shape.k (allowance rows t.level.a t.level.b) 0 (live_mask t))) x y p
+        ap₂ (λ (m v : ℕ). full_run (rows_of s.rows s.columns x) (first_state s.rows s.columns t.shape.k m 0 v)) l (live-is t table work s q)
+        ∙ asked t table work s q (λ u rows columns. full_run (rows_of rows columns u) (first_state rows columns t.shape.k (allowance rows t.level.a t.level.b) 0 (live_mask t))) x y p
         ∙ ap (λ (Y : List (List Float)). full_run Y (trial_start t)) r
 
     pub told : (X : List (List Float)) → rows_of (row_total t) t.shape.offers y ≡ X → (f : FullRun) → f ≡ accepted_run (full_run (rows_of s.rows s.columns x) (first_state s.rows s.columns t.shape.k n 0 s.live))
-        → f ≡ answer (run_call_checks t (length table) (length work)) (accepted_run (full_run X (trial_start t))) refused_run
-    told X r f v = v ∙ ap accepted_run (started X r) ∙ free t table work s q w e z (accepted_run (full_run X (trial_start t))) refused_run
+        → Ok f ≡ outcome (run_call_checks t (length table) (length work)) (accepted_run (full_run X (trial_start t)))
+    told X r f v = ap Ok (v ∙ ap accepted_run (started X r)) ∙ sym (free t table work s q (accepted_run (full_run X (trial_start t))))
 
   pub left : (v : List Float) → v ≡ cleared s.rows work → v ≡ run_work t (length table) work
   unfolding run_work
-  left v p = p ∙ ap (λ (m : ℕ). cleared m work) (rows_are t table work s q w e z) ∙ free t table work s q w e z (cleared (row_total t) work) (λ _. work)
+  left v p = p ∙ ap (λ (m : ℕ). cleared m work) (rows_are t table work s q) ∙ sym (changed t table work s q (cleared (row_total t) work) work)
 
 -- ---- the full run of the table itself
 

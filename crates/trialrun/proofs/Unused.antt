@@ -9,11 +9,11 @@ use mathlib.Core.List.{List, ◌++◌}
 use lib.ListN.{length}
 use lib.Ieee.{Float}
 use Rattle.order.specs.Lists.{rows_of}
-use Rattle.refusals.specs.Answers.{Checks, answer, afterwards}
+use Rattle.refusals.specs.Answers.{Checks, outcome, afterwards}
 use Rattle.refusals.specs.Buffers.{too_short, written, cleared}
 use Rattle.refusals.specs.Limits.{allowance}
 use Rattle.runs.specs.Stepdown.{first_state, Outcome, full_run}
-use Rattle.runs.specs.FullRuns.{accepted_run, refused_run}
+use Rattle.runs.specs.FullRuns.{accepted_run}
 use Rattle.trial.specs.Aside.{live_mask}
 use Rattle.trial.specs.Exchange.{row_total}
 use Rattle.trial.specs.Refusals.{trial_checks}
@@ -41,7 +41,7 @@ module _ (t u : Trial) (s : Same t u) where
 
   pub answer-same : (places work : ℕ) → trial_answer t places work ≡ trial_answer u places work
   unfolding trial_answer
-  answer-same places work = ap₂ (λ (cs : Checks) (o : Outcome). answer cs (accepted_run o) refused_run) (asked-same places work) run-same
+  answer-same places work = ap₂ (λ (cs : Checks) (o : Outcome). outcome cs (accepted_run o)) (asked-same places work) run-same
 
   pub run_table-same : (buf : List Float) (work : ℕ) → run_table t buf work ≡ run_table u buf work
   unfolding run_table

@@ -1,4 +1,4 @@
--- Who set the critical values of a trial's full run (document 02, §5). Definitions only.
+-- Who set the critical values of a trial's full run. Definitions only.
 --   Remaining t m     the row of a record is one of the trial's rows, from 0, and its offer, from 1, one of the trial's that is not set aside
 use Rattle.std.specs.Prelude.{◌-◌, ◌≤◌, ◌<◌, ◌≡◌, false}
 use Rattle.runs.specs.declared.Record.{Record}

@@ -1,18 +1,18 @@
 -- Laws by which rows are made of those straight before them.
 --   first-room, first_more  row 0: what it has room in, and one more entry of it
---   taken_more, taken-before, taken-on     one more of the numbers that are taken off, and one row more
+--   taken_more, taken-before     one more of the numbers that are taken off
 --   cut-length, cut-taken   the row of j, as the code cuts it out
---   lowered-turn            one more entry of a row that is made from an earlier one
---   blocked-turn            one more row of a block
+--   offer-cut               an offer's figures, as the code cuts them out
+--   lowered_turn            one more entry of a row that is made from an earlier one
+--   blocked_turn            one more row of a block
 --   block-places, block_room, block-rows     where the two rows lie, and how far a block goes
 --   extends                 the buffer then holds so many more rows of the table
 --   rows-..                 a buffer that holds the table's first rows: what it holds, at the start, more of them, all
 use Prim.Native.Nat.{ℕ, zero, suc, ◌+◌, ◌-◌, ◌*◌, ◌^◌, ◌≤◌, ◌<◌}
 use native.Mathlib.Numerals.{add-one}
 use native.Mathlib.Omega.{arith}
-use native.Mathlib.Decide.{dec_lt}
 use native.Mathlib.Nat.{add-mul, one-mul, zero-mul, mul-le-mul_right}
-use mathlib.Core.Path.{◌≡◌, refl, sym, ap, subst, ◌∙◌}
+use mathlib.Core.Path.{◌≡◌, refl, sym, ap, ◌∙◌}
 use mathlib.Core.List.{List}
 use lib.ListN.{length, get_or, take, drop, set, length-drop}
 use lib.Seq.{length-take-le, get_or-take, get_or-drop, get_or-set_other, get_or-set_same}
@@ -76,6 +76,11 @@ module _ (d : Design) (offers : ℕ) (xs : List ℤ) (places : ℕ) (ok : Fillab
 
   -- ---- row 0
 
+  pub first-held : offers ≤ length T
+  first-held =
+      let m : 1 * offers ≤ row_count d * offers = mul-le-mul_right offers laid.rows-some in
+      omega (arith, one-mul offers, table_for-length d offers xs)
+
   pub first-room : (i : ℕ) → i < offers → (i * n + n ≤ offers * n) × (i < row_count d * offers)
   first-room i h =
       let m : 1 * offers ≤ row_count d * offers = mul-le-mul_right offers laid.rows-some in
@@ -99,27 +104,21 @@ taken_more f off base i v l h e =
 pub taken-before : (off : List Float) (q p : ℕ) (v : Float) → p < q → get_or (set off q v) p nan ≡ get_or off p nan
 taken-before off q p v h = get_or-set_other off q p v nan (λ e. omega arith)
 
--- one row more
-pub taken-on : (d : Design) (offers : ℕ) (xs : List ℤ) (off next : List Float) (first j : ℕ) → offers ≤ offers_most → ((k : ℕ) → first ≤ k → k < j → TakenOff d offers xs off k) → TakenOff d offers xs next j
-    → ((p : ℕ) → p < offers_most * j → get_or next p nan ≡ get_or off p nan) → (k : ℕ) → first ≤ k → k < j + 1 → TakenOff d offers xs next k
-taken-on d offers xs off next first j h old new same k l m = go (dec_lt k j)
-  where
-    go : Dec (k < j) → TakenOff d offers xs next k
-    go (yes q) = λ i u. same (offers_most * k + i) (omega arith) ∙ old k l q i u
-    go (no q) = let e : j ≡ k = omega (arith, q) in subst (TakenOff d offers xs next) e new
-
 -- the row of j, as the code cuts it out
-row_cut : (off : List Float) (j i : ℕ) → i < offers_most → get_or (take (offers_most * j + offers_most - offers_most * j) (drop (offers_most * j) off)) i nan ≡ get_or off (offers_most * j + i) nan
-row_cut off j i h = let e : offers_most * j + offers_most - offers_most * j ≡ offers_most = omega arith in rw e (get_or-take offers_most (drop (offers_most * j) off) i nan h ∙ get_or-drop (offers_most * j) off i nan)
+module _ (off row : List Float) (j : ℕ) (e : row ≡ take offers_most (drop (offers_most * j) off)) where
+  pub cut-length : j < units_most → length off ≡ figures_most → length row ≡ offers_most
+  cut-length h l = ap length e ∙ length-take-le offers_most (drop (offers_most * j) off) (simp length-drop (omega arith))
 
-pub cut-length : (off : List Float) (j : ℕ) → j < units_most → length off ≡ figures_most → length (take (offers_most * j + offers_most - offers_most * j) (drop (offers_most * j) off)) ≡ offers_most
-cut-length off j h l =
-    let e : offers_most * j + offers_most - offers_most * j ≡ offers_most = omega arith in
-    rw e (length-take-le offers_most (drop (offers_most * j) off) (simp length-drop (omega arith)))
+  pub cut-taken : (d : Design) (offers : ℕ) (xs : List ℤ) → offers ≤ offers_most → TakenOff d offers xs off j
+      → (i : ℕ) → i < offers → get_or row i nan ≡ of_int binary64 (taken_off d j (take (units_of d) (drop (i * units_of d) xs)))
+  cut-taken d offers xs h t i l =
+      ap (λ (r : List Float). get_or r i nan) e ∙ get_or-take offers_most (drop (offers_most * j) off) i nan (omega arith) ∙ get_or-drop (offers_most * j) off i nan ∙ t i l
 
-pub cut-taken : (d : Design) (offers : ℕ) (xs : List ℤ) (off : List Float) (j : ℕ) → offers ≤ offers_most → TakenOff d offers xs off j
-    → (i : ℕ) → i < offers → get_or (take (offers_most * j + offers_most - offers_most * j) (drop (offers_most * j) off)) i nan ≡ of_int binary64 (taken_off d j (take (units_of d) (drop (i * units_of d) xs)))
-cut-taken d offers xs off j h t i l = row_cut off j i (omega arith) ∙ t i l
+-- an offer's figures, as the code cuts them out
+pub offer-cut : (xs : List ℤ) (m n i : ℕ) → m ≡ n → take (i * m + m - i * m) (drop (i * m) xs) ≡ take n (drop (i * n) xs)
+offer-cut xs m n i e =
+    let z : i * n + n - i * n ≡ n = omega arith in
+    ap (λ (k : ℕ). take (i * k + k - i * k) (drop (i * k) xs)) e ∙ ap (λ (k : ℕ). take k (drop (i * n) xs)) z
 
 -- ---- a row in the buffer
 
@@ -131,9 +130,9 @@ lowered-before (suc n) off from at buf p h =
     get_or-set_other (lowered n off from at buf) (at + n) p _ nan (λ e. omega arith) ∙ lowered-before n off from at buf p h
 
 module _ (n : ℕ) (off : List Float) (from at : ℕ) (buf out : List Float) where
-  pub lowered-turn : from + n < at → out ≡ lowered n off from at buf → set out (at + n) (sub binary64 (get_or out (from + n) nan) (get_or off n nan)) ≡ lowered (n + 1) off from at buf
+  pub lowered_turn : from + n < at → out ≡ lowered n off from at buf → set out (at + n) (sub binary64 (get_or out (from + n) nan) (get_or off n nan)) ≡ lowered (n + 1) off from at buf
   unfolding lowered
-  lowered-turn h e = rw (e, add-one) (ap (λ (x : Float). set (lowered n off from at buf) (at + n) (sub binary64 x (get_or off n nan))) (lowered-before n off from at buf (from + n) h))
+  lowered_turn h e = rw (e, add-one) (ap (λ (x : Float). set (lowered n off from at buf) (at + n) (sub binary64 x (get_or off n nan))) (lowered-before n off from at buf (from + n) h))
 
 -- the earlier row is in the part that the buffer holds already
 lowered-begun : (n : ℕ) (off xs buf : List Float) (from at : ℕ) → from + n ≤ at → at + n ≤ length xs → at + n ≤ length buf
@@ -150,10 +149,10 @@ lowered-begun (suc n) off xs buf from at h k l e =
 
 -- ---- a block in the buffer
 
-pub blocked-turn : (n rows offers : ℕ) (off : List Float) (at : ℕ) (buf out next : List Float) → out ≡ blocked n rows offers off at buf
+pub blocked_turn : (n rows offers : ℕ) (off : List Float) (at : ℕ) (buf out next : List Float) → out ≡ blocked n rows offers off at buf
     → next ≡ lowered offers off ((at + n - rows) * offers) ((at + n) * offers) out → next ≡ blocked (n + 1) rows offers off at buf
 unfolding blocked
-blocked-turn n rows offers off at buf out next e f = rw add-one (f ∙ ap (lowered offers off ((at + n - rows) * offers) ((at + n) * offers)) e)
+blocked_turn n rows offers off at buf out next e f = rw add-one (f ∙ ap (lowered offers off ((at + n - rows) * offers) ((at + n) * offers)) e)
 
 -- the earlier row lies before the row that is made of it, and that one within the buffer
 pub block-places : (offers at rows h : ℕ) → rows ≤ at → h < rows
@@ -185,19 +184,21 @@ module _ (d : Design) (offers : ℕ) (xs : List ℤ) (buf : List Float) (ok : Fi
 -- ---- a buffer that holds the table's first rows
 
 module _ (t : List Float) (offers : ℕ) where
-  pub rows-held : (r : ℕ) → r * offers ≤ length t → (buf out : List Float) → out ≡ begun (r * offers) t buf → out ≡ begun (r * offers) t out
-  rows-held r h buf out e = let p = r * offers in e ∙ sym (begun-again t buf p p (omega arith) h) ∙ ap (begun p t) (sym e)
+  pub held : (p : ℕ) → p ≤ length t → (buf out : List Float) → out ≡ begun p t buf → out ≡ begun p t out
+  held p h buf out e = e ∙ sym (begun-again t buf p p (omega arith) h) ∙ ap (begun p t) (sym e)
 
-  pub rows-begin : (r : ℕ) → r ≡ 1 → r * offers ≤ length t → (buf out : List Float) → out ≡ begun offers t buf → out ≡ begun (r * offers) t out
-  rows-begin r q h buf out e = rows-held r h buf out (e ∙ ap (λ (n : ℕ). begun n t buf) (sym (ap (λ (n : ℕ). n * offers) q ∙ one-mul offers)))
+  pub rows-held : (r : ℕ) → r * offers ≤ length t → (buf out : List Float) → out ≡ begun (r * offers) t buf → out ≡ begun (r * offers) t out
+  rows-held r h buf out e = held (r * offers) h buf out e
+
+  pub rows-begin : (r : ℕ) → r ≡ 1 → (out : List Float) → out ≡ begun offers t out → out ≡ begun (r * offers) t out
+  rows-begin r q out e = e ∙ ap (λ (n : ℕ). begun n t out) (sym (ap (λ (n : ℕ). n * offers) q ∙ one-mul offers))
 
   pub rows_on : (r s : ℕ) → r ≤ s → r * offers ≤ length t → (buf out next : List Float) → out ≡ begun (r * offers) t buf → next ≡ begun (s * offers) t out → next ≡ begun (s * offers) t buf
   rows_on r s h k buf out next e q =
       let m : r * offers ≤ s * offers = mul-le-mul_right offers h in
       q ∙ ap (begun (s * offers) t) e ∙ begun-again t buf (r * offers) (s * offers) m k
 
-  pub rows_all : (r : ℕ) → 1 ≤ r → r * offers ≡ length t → (buf first out : List Float) → first ≡ begun offers t buf → out ≡ begun (r * offers) t first → out ≡ written t buf
-  rows_all r h k buf first out e q =
-      let m : 1 * offers ≤ r * offers = mul-le-mul_right offers h in
-      let o = one-mul offers in
-      q ∙ ap (begun (r * offers) t) e ∙ begun-again t buf offers (r * offers) (omega arith) (omega arith) ∙ begun_all t buf (r * offers) k
+  pub rows_all : offers ≤ length t → (buf first out : List Float) → first ≡ begun offers t buf → out ≡ written t first → out ≡ written t buf
+  rows_all h buf first out e q =
+      let n = length t in
+      q ∙ sym (begun_all t first n refl) ∙ ap (begun n t) e ∙ begun-again t buf offers n h (omega arith) ∙ begun_all t buf n refl

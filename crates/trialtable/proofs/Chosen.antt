@@ -3,7 +3,8 @@
 --   no-choice               one choice where none is treated
 --   chooses                 the rows of a block are those straight before them
 --   at-end                  past the last block all choices with the shops before p are there
---   chosen-room             so many rows are rows of the table
+--   chosen-room, before-room     so many rows are rows of the table
+--   in_turn                 the numbers of a block
 --   chosen-most, chosen-rising     the choices with the shops before p are among all, and among those with fewer
 use Prim.Native.Nat.{ℕ, suc, ◌+◌, ◌-◌, ◌*◌, ◌≤◌, ◌<◌}
 use native.Mathlib.Omega.{arith}
@@ -64,3 +65,12 @@ module _ (n t : ℕ) (h : t < n) where
   pub chosen-room : (offers : ℕ) (xs : List ℤ) (r : ℕ) → r ≤ length (choices n t) → r * offers ≤ length (table_for (Unpaired n t) offers xs)
   unfolding row_count
   chosen-room offers xs r k = let m : r * offers ≤ length (choices n t) * offers = mul-le-mul_right offers k in omega (arith, table_for-length (Unpaired n t) offers xs)
+
+module _ (n t : ℕ) (good : first_refusal (design_checks (Unpaired n t)) ≡ 0) where
+  -- shop m in the place of the one before it, with the shops before p and not p
+  pub in_turn : (p m : ℕ) → p < t → p + 1 ≤ m → m < n - (t - p - 1) → (p < m) × (m ≤ n - t + p) × (m < n) × (t < n) × (n ≤ shops_most)
+  in_turn p m k a b = let s = shops-known n t good in (omega arith, omega (arith, s), omega (arith, s), s.3, s.1)
+
+  -- the rows whose choices have the shops before p
+  pub before-room : (offers : ℕ) (xs : List ℤ) (p at : ℕ) → p ≤ t → at ≡ length (choices (n - p) (t - p)) → at * offers ≤ length (table_for (Unpaired n t) offers xs)
+  before-room offers xs p at h e = let s = shops-known n t good in chosen-room n t s.3 offers xs at (omega (arith, e, chosen-most n t p h (omega (arith, s))))

@@ -1,4 +1,4 @@
--- Example: W's file is written as document 01 prints it.
+-- Example: W's file is written as it is printed.
 use mathlib.Core.Path.{◌≡◌, refl}
 use Rattle.trial.specs.Examples.{trial_w}
 use Rattle.words.specs.Words.{bytes_of, bits_of}

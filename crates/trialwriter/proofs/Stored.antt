@@ -1,13 +1,13 @@
 -- Laws of words that are stored in a buffer, one after the other.
---   word-stored            four bytes that are stored are a word
+--   word_stored            four bytes that are stored are a word
 --   sets-append, sets-all  one part after another; from the first place on
 --   figure-small, figure-word     a figure that is read from its bits
 --   stored, store-turn, store-end  a loop that stores the words f 0, f 1 and so on from the place `at` on
-use Prim.Native.Nat.{ℕ, suc, ◌+◌, ◌*◌, ◌/◌, ◌%◌, ◌^◌, ◌≤◌, ◌<◌}
+use Prim.Native.Nat.{ℕ, suc, ◌+◌, ◌*◌, ◌^◌, ◌≤◌, ◌<◌}
 use native.Mathlib.Omega.{arith}
 use mathlib.Core.Path.{◌≡◌, refl, sym, ap, ap₂, ◌∙◌}
 use mathlib.Core.List.{List, [], ◌∷◌, ◌++◌, append-nil}
-use lib.ListN.{length, set, drop}
+use lib.ListN.{length, set, take, drop}
 use lib.Seq.{sets, sets-eq, length-sets}
 use lib.IntN.{ℤ, nat_abs}
 use lib.Signed.{mag}
@@ -20,12 +20,10 @@ use Rattle.refusals.specs.Buffers.{written}
 use Rattle.words.specs.Words.{word_bytes, bytes_of, difference_word}
 use Rattle.words.proofs.Words.{bytes_of-length, bytes_of-append}
 
-pub word-stored : (out : List ℕ) (at w : ℕ) → set (set (set (set out at (w % 256)) (at + 1) (w / 256 % 256)) (at + 2) (w / 65536 % 256)) (at + 3) (w / 16777216) ≡ sets out at (word_bytes w)
-word-stored out at w =
-    let e1 : at + 1 ≡ suc at = omega arith in
-    let e2 : at + 2 ≡ suc (suc at) = omega arith in
-    let e3 : at + 3 ≡ suc (suc (suc at)) = omega arith in
-    rw (e1, e2, e3)
+pub word_stored : (out after : List ℕ) (at w : ℕ) → at + 4 ≤ length out → after ≡ take at out ++ word_bytes w ++ drop (at + 4) out → after ≡ sets out at (word_bytes w)
+word_stored out after at w h e =
+    let n : at + 4 ≡ at + length (word_bytes w) = omega arith in
+    e ∙ ap (λ (k : ℕ). take at out ++ word_bytes w ++ drop k out) n ∙ sym (sets-eq (word_bytes w) out at (omega arith))
 
 pub sets-append : (buf xs ys : List ℕ) (i : ℕ) → sets (sets buf i xs) (i + length xs) ys ≡ sets buf i (xs ++ ys)
 sets-append buf [] ys i = let e : i + 0 ≡ i = omega arith in ap (λ (k : ℕ). sets buf k ys) e

@@ -6,7 +6,7 @@ use Prim.Native.Nat.{ℕ, ◌*◌}
 use mathlib.Core.Path.{◌≡◌, ap, ap₂}
 use mathlib.Core.List.{List, ◌++◌}
 use lib.ListN.{length}
-use Rattle.refusals.specs.Answers.{Checks, answer, afterwards}
+use Rattle.refusals.specs.Answers.{Checks, outcome, afterwards}
 use Rattle.refusals.specs.Buffers.{too_short, written}
 use Rattle.trial.specs.Record.{Contents, Same}
 use Rattle.trial.specs.declared.Trial.{Trial}
@@ -29,7 +29,7 @@ module _ (t u : Trial) (s : Same t u) where
 
   pub writing-same : (places : ℕ) → writing_of t places ≡ writing_of u places
   unfolding writing_of
-  writing-same places = ap₂ (λ (cs : Checks) (l : ℕ). answer cs (record { refusal = 0; length = l }) (λ n. record { refusal = n; length = 0 })) (checked-same places) length-same
+  writing-same places = ap₂ (λ (cs : Checks) (l : ℕ). outcome cs l) (checked-same places) length-same
 
   pub written_same : (buf : List ℕ) → after_writing t buf ≡ after_writing u buf
   unfolding after_writing

@@ -1,7 +1,8 @@
 -- Laws for writing: what the parts of an accepted trial fit into, the words one after the other, and the answer.
 --   Writable, writable             what the writer knows of an accepted trial and its layout
 --   all-stored                     level, shape, offers, figures and end, stored one after the other, are the file
---   writing-refused, writing-short, writing-done     the answer
+--   record_err, room_judged        the answer: the record is turned away, or else 12 decides
+--   unchanged, all_written         the buffer after it
 use Prim.Native.Nat.{ℕ, ◌+◌, ◌*◌, ◌≤◌, ◌<◌}
 use native.Mathlib.Omega.{arith}
 use mathlib.Core.Path.{◌≡◌, refl, sym, ap, ap₂, ◌∙◌}
@@ -11,21 +12,23 @@ use lib.Seq.{sets, get_or-take}
 use lib.IntN.{pos, nat_abs}
 use Rattle.limits.specs.Limits.{offers_most, figures_most, tolerance_most, digits_most, difference_most, level_most}
 use Rattle.order.proofs.Lists.{tabulate-length, tabulate-same}
-use Rattle.refusals.specs.Answers.{Checks, first_refusal}
-use Rattle.refusals.proofs.Answers.{none_first}
+use lib.Dec.{ltb}
+use mathlib.Core.Bool.{Bool, cond}
+use Rattle.std.proofs.Common.{Result, Ok, Err}
+use Rattle.refusals.specs.Answers.{outcome, first_refusal}
+use Rattle.refusals.specs.declared.refusal.Refusal.{Refusal}
+use Rattle.refusals.specs.declared.refusal.Refusal.TheVariants.{Buffer}
+use Rattle.refusals.proofs.Answers.{none_first, ok_answer, err_answer, ok-append, err-append}
 use Rattle.refusals.specs.Buffers.{too_short, written}
-use Rattle.refusals.proofs.Buffers.{lent-short, lent-enough}
 use Rattle.trial.specs.Designs.{design_checks}
 use Rattle.trial.specs.Record.{ArrayLengths, figure_count, contents}
-use Rattle.trial.specs.Refusals.{nth, trial_refusal}
+use Rattle.trial.specs.Refusals.{nth, trial_checks, trial_refusal}
 use Rattle.trial.specs.declared.Trial.{Trial}
 use Rattle.trial.proofs.Accepted.{accepted}
-use Rattle.trial.proofs.Calls.{turned-away, passed_on}
 use Rattle.words.specs.Words.{word_bytes, bytes_of, level_word, offer_word, difference_word, end_word}
 use Rattle.layouts.specs.Layouts.{layout_of}
 use Rattle.words.specs.Words.{shape_word_of}
 use Rattle.trialwriter.specs.Writings.{offer_words, figure_words, content_words, file_words, file_of, file_length, write_checks, writing_of, after_writing}
-use Rattle.trialwriter.specs.declared.Writing.{Writing}
 use Rattle.layouts.specs.declared.Layout.{Layout}
 use Rattle.words.proofs.Words.{bytes_of-length, bytes_of-append}
 use Rattle.layouts.proofs.Layouts.{Stands, stands}
@@ -120,34 +123,24 @@ module _ (t : Trial) (l : Layout) (able : Writable t l) where
 
 -- ---- the answer
 
-module _ (t : Trial) (buf : List ℕ) (r : ℕ) (e : r ≡ trial_refusal t) where
-  abbrev short : Checks
-  short = too_short (length buf) (file_length t)
+module _ (t : Trial) (buf : List ℕ) where
+  abbrev Told : Result ℕ Refusal → Type 0
+  Told a = writing_of t (length buf) ≡ a
 
-  abbrev done : Writing
-  done = record { refusal = 0; length = file_length t }
+  pub record_err : (r : Refusal) → outcome (trial_checks t) (tt {0}) ≡ Err r → Told (Err r)
+  unfolding writing_of write_checks
+  record_err r h = err-append (trial_checks t) (too_short (length buf) (file_length t)) tt (file_length t) r h
 
-  abbrev refusing : ℕ → Writing
-  refusing n = record { refusal = n; length = 0 }
+  pub room_judged : {x : Unit {0}} → outcome (trial_checks t) (tt {0}) ≡ Ok x → (n : ℕ) → n ≡ file_length t → (b : Bool) → ltb (length buf) n ≡ b → Told (cond b (Err Buffer) (Ok n))
+  unfolding writing_of write_checks
+  room_judged h n w b e =
+      ok-append (trial_checks t) (too_short (length buf) (file_length t)) tt _ (file_length t) h
+      ∙ ap (λ (k : ℕ). cond (ltb (length buf) k) (Err Buffer) (Ok k)) (sym w) ∙ ap (λ (q : Bool). cond q (Err Buffer) (Ok n)) e
 
-  abbrev Answered : Writing → List ℕ → Type 0
-  Answered w out = (w ≡ writing_of t (length buf)) × (out ≡ after_writing t buf)
+  pub unchanged : (r : Refusal) → Told (Err r) → buf ≡ after_writing t buf
+  unfolding writing_of after_writing
+  unchanged r h = sym (err_answer (write_checks t (length buf)) (file_length t) r (written (file_of t) buf) (λ _. buf) h)
 
-  pub writing-refused : (r ≡ 0 → ⊥) → Answered (refusing r) buf
-  unfolding writing_of after_writing write_checks
-  writing-refused z = (turned-away done refusing t short r e z, turned-away (written (file_of t) buf) (λ _. buf) t short r e z)
-
-  module _ (n : ℕ) (z : r ≡ 0) (w : n ≡ file_length t) where
-    pub writing-short : length buf < n → Answered (refusing 12) buf
-    unfolding writing_of after_writing write_checks
-    writing-short h =
-        let s : length buf < file_length t = omega arith in
-        (lent-short done refusing _ _ s ∙ passed_on done refusing t short r e z, lent-short (written (file_of t) buf) (λ _. buf) _ _ s ∙ passed_on (written (file_of t) buf) (λ _. buf) t short r e z)
-
-    pub writing-done : (out : List ℕ) → n ≤ length buf → out ≡ written (file_of t) buf → Answered (record { refusal = 0; length = n }) out
-    unfolding writing_of after_writing write_checks
-    writing-done out h g =
-        let s : file_length t ≤ length buf = omega arith in (
-          ap (λ (k : ℕ). record { refusal = 0; length = k }) w ∙ lent-enough done refusing _ _ s ∙ passed_on done refusing t short r e z,
-          g ∙ lent-enough (written (file_of t) buf) (λ _. buf) _ _ s ∙ passed_on (written (file_of t) buf) (λ _. buf) t short r e z,
-        )
+  pub all_written : (n : ℕ) → Told (Ok n) → (out : List ℕ) → out ≡ written (file_of t) buf → out ≡ after_writing t buf
+  unfolding writing_of after_writing
+  all_written n h out w = w ∙ sym (ok_answer (write_checks t (length buf)) (file_length t) n (written (file_of t) buf) (λ _. buf) h)

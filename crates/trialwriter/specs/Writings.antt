@@ -1,4 +1,4 @@
--- Writing a trial into a lent byte buffer (document 01). Definitions only.
+-- Writing a trial into a lent byte buffer. Definitions only.
 --   offer_words, figure_words   the words of n offers, and of n figures
 --   content_words c        the words of a trial's contents, in the order of the layout
 --   file_words t           the words of an accepted trial's file: level, shape, offers, figures, end
@@ -6,18 +6,18 @@
 --   file_length t          how many bytes these are
 --   write_checks t places  of writing t into so many places: what the record is turned away for, then 12
 --   write_refusal t places  the number of the first that holds, or 0
---   writing_of t places    what writing answers: 0 and the length of the file, or the number of the refusal and 0
+--   writing_of t places    what writing answers: the length of the file, or its refusal
 --   after_writing t buf    the buffer after it: the file in its first places, or unchanged where the call is refused
-use Rattle.std.specs.Prelude.{ℕ, ◌*◌, List, [], ◌∷◌, ◌++◌, length, ℤ, pos}
+use Rattle.std.specs.Prelude.{ℕ, ◌*◌, List, [], ◌∷◌, ◌++◌, length, ℤ, pos, Result}
 use Rattle.order.specs.Lists.{tabulate}
-use Rattle.refusals.specs.Answers.{Checks, answer, first_refusal, afterwards}
+use Rattle.refusals.specs.Answers.{Checks, answer, outcome, first_refusal, afterwards}
+use Rattle.refusals.specs.declared.refusal.Refusal.{Refusal}
 use Rattle.refusals.specs.Buffers.{too_short, written}
 use Rattle.trial.specs.Record.{figure_count, Contents, contents}
 use Rattle.trial.specs.Refusals.{nth, trial_checks}
 use Rattle.trial.specs.declared.Trial.{Trial}
 use Rattle.words.specs.Words.{bytes_of, level_word, shape_word_of, offer_word, bits_of, difference_word, end_word}
 use Rattle.layouts.specs.Layouts.{layout_of, word_total}
-use Rattle.trialwriter.specs.declared.Writing.{Writing}
 
 abbrev pub offer_words : (ℕ → ℕ) → (ℕ → ℕ) → ℕ → List ℕ
 offer_words code digits n = tabulate n (λ i. offer_word (code i) (digits i))
@@ -54,9 +54,9 @@ unfoldable pub write_refusal : Trial → ℕ → ℕ
 unfolding first_refusal write_checks
 write_refusal t places = first_refusal (write_checks t places)
 
-unfoldable pub writing_of : Trial → ℕ → Writing
-unfolding answer write_checks
-writing_of t places = answer (write_checks t places) (record { refusal = 0; length = file_length t }) (λ n. record { refusal = n; length = 0 })
+unfoldable pub writing_of : Trial → ℕ → Result ℕ Refusal
+unfolding write_checks
+writing_of t places = outcome (write_checks t places) (file_length t)
 
 unfoldable pub after_writing : Trial → List ℕ → List ℕ
 unfolding answer write_checks file_of

@@ -7,32 +7,17 @@ mod writer; // the file of an accepted trial
 ghost use Rattle.std.specs.Prelude.{◌≡◌, length};
 ghost use Rattle.trialwriter.specs.Writings.{writing_of, after_writing};
 
+use refusals::Refusal;
 use trial::Trial;
 
-// What writing a trial answers: 0 and the length of the file, or the number of the refusal and 0.
-#[derive(Clone, Copy)]
-pub struct Writing {
-    pub refusal: u32,
-    pub length: usize,
-}
-
-// Writes a trial's file into the buffer's first places, or answers the number of the refusal and leaves the buffer as it was.
-pub fn write(t: Trial, out: &mut [u8]) -> Writing
+// Writes a trial's file into the buffer's first places, and answers how long it is. Where the call is refused the buffer is as it was.
+pub fn write(t: Trial, out: &mut [u8]) -> Result<usize, Refusal>
     ensures { (result ≡ writing_of t (length out.old)) × (out.new ≡ after_writing t out.old) }
 {
-    let refusal = trial::check(t);
-    if refusal != 0 {
-        return Writing { refusal, length: 0 };
-    }
-    let shape = t.shape;
-    let l = layouts::of_shape(shape);
+    trial::check(t)?;
+    let l = layouts::of_shape(t.shape);
     let length = 4 * (l.end + 1);
-    if out.len() < length {
-        return Writing {
-            refusal: 12,
-            length: 0,
-        };
-    }
+    Refusal::Buffer.if_true(out.len() < length)?;
     writer::write_words(t, l, out);
-    Writing { refusal: 0, length }
+    Ok(length)
 }

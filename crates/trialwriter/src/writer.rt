@@ -17,11 +17,7 @@ fn put_word(out: &mut [u8], i: usize, w: u32)
     requires { (i < 65536) × (4 * i + 4 ≤ length out.old) }
     ensures { out.new ≡ sets out.old (4 * i) (word_bytes w) }
 {
-    let at = 4 * i;
-    out[at] = (w % 256) as u8;
-    out[at + 1] = (w / 256 % 256) as u8;
-    out[at + 2] = (w / 65536 % 256) as u8;
-    out[at + 3] = (w / 16777216) as u8;
+    out[4 * i..4 * i + 4].copy_from_slice(&w.to_le_bytes());
 }
 
 // the words of n offers, from the place `at` on
@@ -29,24 +25,18 @@ fn write_offers(codes: &[u32], digits: &[u8], n: usize, at: usize, out: &mut [u8
     requires { (n ≤ offers_most) × (n ≤ length codes.now) × (n ≤ length digits.now) × (at ≤ longest_file) × (4 * (at + n) ≤ length out.old) × ((i : ℕ) → i < n → (get_or codes.now i 0 < 16777216) × (get_or digits.now i 0 ≤ digits_most)) }
     ensures { out.new ≡ sets out.old (4 * at) (bytes_of (offer_words (nth codes.now 0) (nth digits.now 0) n)) }
 {
-    let mut i: usize = 0;
-    while i < n {
-        let w = word::offer_word(codes[i], digits[i]);
-        put_word(out, at + i, w);
-        i += 1;
+    for i in 0..n {
+        put_word(out, at + i, word::offer_word(codes[i], digits[i]));
     }
 }
 
-// the words of n figures, from the place `at` on
+// the words of n figures, from the place `at` on; one function for both would take a closure whose contract says all that differs, no plainer
 fn write_figures(figures: &[i32], n: usize, at: usize, out: &mut [u8])
     requires { (n ≤ figures_most) × (n ≤ length figures.now) × (at ≤ longest_file) × (4 * (at + n) ≤ length out.old) × ((i : ℕ) → i < n → nat_abs (get_or figures.now i (pos 0)) ≤ difference_most) }
     ensures { out.new ≡ sets out.old (4 * at) (bytes_of (figure_words (nth figures.now (pos 0)) n)) }
 {
-    let mut i: usize = 0;
-    while i < n {
-        let w = word::difference_word(figures[i]);
-        put_word(out, at + i, w);
-        i += 1;
+    for i in 0..n {
+        put_word(out, at + i, word::difference_word(figures[i]));
     }
 }
 
@@ -55,20 +45,24 @@ pub(crate) fn write_words(t: Trial, l: Layout, out: &mut [u8])
     requires { (ArrayLengths t) × (trial_refusal t ≡ 0) × (l ≡ layout_of t.shape) × (file_length t ≤ length out.old) }
     ensures { out.new ≡ written (file_of t) out.old }
 {
-    let level = t.level;
     let shape = t.shape;
-    let design = shape.design;
-    let labels = t.labels;
-    let codes = labels.codes;
-    let digits = labels.digits;
-    let figures = t.figures;
-    put_word(out, layouts::LEVEL_AT, word::level_word(level.a, level.b));
+    put_word(
+        out,
+        layouts::LEVEL_AT,
+        word::level_word(t.level.a, t.level.b),
+    );
     put_word(
         out,
         layouts::SHAPE_AT,
-        word::shape_word(shape.k, shape.offers, design),
+        word::shape_word(shape.k, shape.offers, shape.design),
     );
-    write_offers(&codes, &digits, shape.offers, l.offers, out);
-    write_figures(&figures, l.end - l.figures, l.figures, out);
+    write_offers(
+        &t.labels.codes,
+        &t.labels.digits,
+        shape.offers,
+        l.offers,
+        out,
+    );
+    write_figures(&t.figures, l.end - l.figures, l.figures, out);
     put_word(out, l.end, word::end_word(l.end));
 }

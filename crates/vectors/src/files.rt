@@ -1,31 +1,33 @@
 // A file: what the reader answers, the full run of its trial, and the report.
-use super::{answers, input, pen, trials};
+use super::pen::Pen;
+use super::{answers, input, trials};
 use std::io::Read;
 
+// A refused file is told as the blank trial.
 fn read(rt: HostRuntime, file: &[u8]) {
-    let r = trialfile::read(file);
-    let t = r.trial;
-    pen::end(trials::print(pen::start(rt, b"read", 24, r.refusal as usize), t));
+    let answer = trialfile::read(file);
+    let p = Pen::start(rt, b"read", 24, answers::number(answer));
+    trials::print(p, answer.unwrap_or(trial::blank())).end();
 }
 
 // The run and the trial stand as a checksum: the report and the reader tell them.
 fn full_run(rt: HostRuntime, file: &[u8]) {
-    let f = trialrun::file_run(file);
-    let run = f.run;
-    let t = f.trial;
-    pen::end(trials::print(answers::full_run(rt, 0, run), t));
+    let answer = trialrun::file_run(file);
+    let p = answers::full_run(rt, 0, answer.map(|f| f.run));
+    let t = answer.map_or(trial::blank(), |f| f.trial);
+    trials::print(p, t).end();
 }
 
 fn text(rt: HostRuntime, buffer: &[u8], length: usize) {
-    let n = input::bytes_of(length, buffer);
+    let n = input::places_of(length, buffer);
     let _ = rt.write_all(&buffer[..n]);
 }
 
 // The report as it is, after a line that tells the answer and the buffer.
 fn report(rt: HostRuntime, file: &[u8], buffer: &mut [u8]) {
-    let r = rendering::report(file, buffer);
-    pen::written(rt, b"report", r.refusal, r.length, buffer);
-    text(rt, buffer, r.length);
+    let answer = rendering::report(file, buffer);
+    answers::written(rt, b"report", answer, buffer);
+    text(rt, buffer, answer.unwrap_or(0));
 }
 
 fn every_call(rt: HostRuntime, file: &mut [u8], buffer: &mut [u8]) {
@@ -37,6 +39,6 @@ fn every_call(rt: HostRuntime, file: &mut [u8], buffer: &mut [u8]) {
 
 pub(crate) fn answer(rt: HostRuntime, buffer: &mut [u8]) {
     let mut space = [0u8; 2048];
-    let n = input::bytes_of(input::word(rt), &space);
+    let n = input::places_of(input::word(rt), &space);
     every_call(rt, &mut space[..n], buffer);
 }

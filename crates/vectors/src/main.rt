@@ -12,6 +12,8 @@ mod steps; // cases of runs: their beginning, their steps
 mod tables; // cases of a lent table: full runs, balanced ones, and places of a view
 mod trials; // trials in the input and in the output
 
+use pen::Pen;
+
 // A case of a table, which the input tells first.
 fn over_table(rt: HostRuntime, kind: usize, cells: &mut [f64], work: &mut [f64]) {
     tables::load(rt, cells);
@@ -24,10 +26,11 @@ fn over_table(rt: HostRuntime, kind: usize, cells: &mut [f64], work: &mut [f64])
     }
 }
 
-// The first case is the seed of the generated ones, as the input tells it.
+// The first case is the seed of the generated ones, as the input tells it. A kind stands as the input's number: an enum would be this match
+// once more, to make it.
 fn answer(rt: HostRuntime, kind: usize, bytes: &mut [u8], cells: &mut [f64], work: &mut [f64]) {
     match kind {
-        1 => pen::end(pen::start(rt, b"seed", 1, input::word(rt))),
+        1 => Pen::start(rt, b"seed", 1, input::word(rt)).end(),
         2 => files::answer(rt, bytes),
         3 => records::answer(rt, bytes, cells, work),
         _ => over_table(rt, kind, cells, work),
@@ -39,9 +42,9 @@ fn answer(rt: HostRuntime, kind: usize, bytes: &mut [u8], cells: &mut [f64], wor
 fn lend(rt: HostRuntime, kind: usize, space: &mut [f64]) {
     let mut bytes = [7u8; 3072];
     let mut work = [7.0f64; 4104];
-    let k = input::bytes_of(input::word(rt), &bytes);
-    let n = input::values_of(input::word(rt), space);
-    let m = input::values_of(input::word(rt), &work);
+    let k = input::places_of(input::word(rt), &bytes);
+    let n = input::places_of(input::word(rt), space);
+    let m = input::places_of(input::word(rt), &work);
     answer(rt, kind, &mut bytes[..k], &mut space[..n], &mut work[..m]);
 }
 
@@ -57,12 +60,9 @@ fn one(rt: HostRuntime, space: &mut [f64]) -> bool {
 
 // Cases until the input ends.
 fn every_case(rt: HostRuntime, space: &mut [f64]) {
-    let mut left: u32 = 1000000;
-    while 0 < left {
-        if one(rt, space) {
-            left -= 1;
-        } else {
-            left = 0;
+    for _ in 0..1000000 {
+        if !one(rt, space) {
+            return;
         }
     }
 }

@@ -1,17 +1,14 @@
 // Runs, by themselves or over a view: begun, and step by step until a step is refused.
-use super::{answers, input, pen, tables};
-use stepdown::{Beginning, Run, StepAnswer};
+use super::pen::Pen;
+use super::{answers, bits, input, tables};
+use refusals::Refusal;
+use runs::Record;
+use stepdown::Run;
+use view::View;
 
-// A run, and whether it goes on.
-#[derive(Clone, Copy)]
-struct Going {
-    run: Run,
-    on: bool,
-}
-
-fn begin(rt: HostRuntime, r: Run, cells: &[f64]) -> Beginning {
+fn begin(rt: HostRuntime, r: Run, cells: &[f64]) -> Result<Run, Refusal> {
     if input::word(rt) != 0 {
-        return view::begin_at(cells, r.rows, r.columns, r.k, r.a, r.b, r.observed);
+        return tables::view_of(r, cells).begin(r.k, r.a, r.b, r.observed);
     }
     Run::begin(r.rows, r.columns, r.k, r.a, r.b, r.observed)
 }
@@ -19,51 +16,45 @@ fn begin(rt: HostRuntime, r: Run, cells: &[f64]) -> Beginning {
 // A run that is begun, as a line: 0 and the run, or the refusal. The values are not looked at.
 pub(crate) fn answer_begin(rt: HostRuntime, cells: &[f64]) {
     match begin(rt, tables::run(rt), cells) {
-        Beginning::Begun(run) => pen::end(answers::run(pen::start(rt, b"begin", 10, 0), run)),
-        Beginning::Refused(number) => pen::end(pen::start(rt, b"begin", 1, number as usize)),
+        Ok(run) => answers::run(Pen::start(rt, b"begin", 10, 0), run).end(),
+        Err(refusal) => Pen::start(rt, b"begin", 1, u32::from(refusal) as usize).end(),
     }
 }
 
 // A step goes by the run's sizes and not by the view's, which is one row here.
-fn step(viewed: bool, r: Run, cells: &[f64], work: &mut [f64]) -> StepAnswer {
+fn step(viewed: bool, r: Run, cells: &[f64], work: &mut [f64]) -> Result<(Run, Record), Refusal> {
     if viewed {
-        return view::step_at(cells, 1, cells.len(), r, work);
+        let table = View {
+            values: cells,
+            rows: 1,
+            columns: cells.len(),
+        };
+        return table.step(r, work);
     }
     r.step(cells, work)
 }
 
 // A step as a line: 0, the record and the run, or the refusal.
-fn stepped(rt: HostRuntime, s: StepAnswer, before: Run) -> Going {
-    match s {
-        StepAnswer::Stepped(run, logged) => {
-            let p = answers::record(pen::start(rt, b"step", 14, 0), logged);
-            pen::end(answers::run(p, run));
-            Going { run, on: true }
+fn print(rt: HostRuntime, answer: Result<(Run, Record), Refusal>) {
+    match answer {
+        Ok((run, logged)) => {
+            let p = answers::record(Pen::start(rt, b"step", 14, 0), logged);
+            answers::run(p, run).end();
         }
-        StepAnswer::Refused(number) => {
-            pen::end(pen::start(rt, b"step", 1, number as usize));
-            Going {
-                run: before,
-                on: false,
-            }
-        }
+        Err(refusal) => Pen::start(rt, b"step", 1, u32::from(refusal) as usize).end(),
     }
 }
 
-fn next(rt: HostRuntime, viewed: bool, g: Going, cells: &[f64], work: &mut [f64]) -> Going {
-    if g.on {
-        let r = g.run;
-        return stepped(rt, step(viewed, r, cells, work), r);
-    }
-    g
-}
-
+// At most 40 steps: a run has fewer.
 fn every_step(rt: HostRuntime, viewed: bool, run: Run, cells: &[f64], work: &mut [f64]) {
-    let mut g = Going { run, on: true };
-    let mut left: usize = 40;
-    while 0 < left {
-        g = next(rt, viewed, g, cells, work);
-        left -= 1;
+    let mut r = run;
+    for _ in 0..40 {
+        let answer = step(viewed, r, cells, work);
+        print(rt, answer);
+        let Ok((next, _)) = answer else {
+            return;
+        };
+        r = next;
     }
 }
 
@@ -71,5 +62,7 @@ fn every_step(rt: HostRuntime, viewed: bool, run: Run, cells: &[f64], work: &mut
 pub(crate) fn answer(rt: HostRuntime, cells: &[f64], work: &mut [f64]) {
     let r = tables::run(rt);
     every_step(rt, input::word(rt) != 0, r, cells, work);
-    pen::end(pen::values(pen::start(rt, b"work", 16, work.len()), work));
+    Pen::start(rt, b"work", 16, work.len())
+        .each(work, bits::of)
+        .end();
 }

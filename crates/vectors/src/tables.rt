@@ -1,31 +1,29 @@
 // A lent table: read from the input, and put to the calls, by themselves or through a view.
-use super::{answers, bits, input, pen};
+use super::pen::Pen;
+use super::{answers, bits, input};
+use refusals::Refusal;
 use runs::FullRun;
 use stepdown::Run;
-use view::Entry;
+use view::View;
 
-// The next value: of the input, or one that stands there already, a period before.
-fn next(rt: HostRuntime, cells: &[f64], i: usize, given: bool, period: usize) -> f64 {
-    if given {
-        return bits::value(input::word(rt));
-    }
-    if period <= i {
-        let earlier = i - period;
-        if earlier < cells.len() {
-            return cells[earlier];
-        }
-    }
-    0.0
+// The value that stands a period before place i, or 0 where none does.
+fn earlier(cells: &[f64], i: usize, period: usize) -> f64 {
+    i.checked_sub(period)
+        .and_then(|j| cells.get(j))
+        .copied()
+        .unwrap_or(0.0)
 }
 
 // The values of the whole buffer: so many stand in the input, and each later one is the one that stands a period before it.
 pub(crate) fn load(rt: HostRuntime, cells: &mut [f64]) {
     let written = input::word(rt);
     let period = input::word(rt);
-    let mut i: usize = 0;
-    while i < cells.len() {
-        cells[i] = next(rt, cells, i, i < written, period);
-        i += 1;
+    for i in 0..cells.len() {
+        cells[i] = if i < written {
+            bits::value(input::word(rt))
+        } else {
+            earlier(cells, i, period)
+        };
     }
 }
 
@@ -44,9 +42,18 @@ pub(crate) fn run(rt: HostRuntime) -> Run {
     }
 }
 
-fn full_run(rt: HostRuntime, r: Run, cells: &[f64], work: &mut [f64]) -> FullRun {
+// The cells as a table of a run's sizes.
+pub(crate) fn view_of<'a>(r: Run, cells: &'a [f64]) -> View<'a> {
+    View {
+        values: cells,
+        rows: r.rows,
+        columns: r.columns,
+    }
+}
+
+fn full_run(rt: HostRuntime, r: Run, cells: &[f64], work: &mut [f64]) -> Result<FullRun, Refusal> {
     if input::word(rt) != 0 {
-        return view::full_run_at(cells, work, r.rows, r.columns, r.k, r.a, r.b, r.observed);
+        return view_of(r, cells).full_run(work, r.k, r.a, r.b, r.observed);
     }
     stepdown::full_run(cells, work, r.rows, r.columns, r.k, r.a, r.b, r.observed)
 }
@@ -54,35 +61,36 @@ fn full_run(rt: HostRuntime, r: Run, cells: &[f64], work: &mut [f64]) -> FullRun
 // The full run of a table with a run's figures, and the work buffer.
 pub(crate) fn answer(rt: HostRuntime, cells: &[f64], work: &mut [f64]) {
     let f = full_run(rt, run(rt), cells, work);
-    pen::end(pen::values(answers::full_run(rt, 24, f), work));
+    answers::full_run(rt, 24, f).each(work, bits::of).end();
 }
 
 fn balanced(rt: HostRuntime, r: Run, cells: &[f64], out: &mut [f64], work: &mut [f64]) {
     let f = tablebalance::balanced_run(
         cells, out, work, r.rows, r.columns, r.k, r.a, r.b, r.observed,
     );
-    let p = pen::values(answers::full_run(rt, 24, f), work);
-    pen::end(pen::values(p, out));
+    answers::full_run(rt, 24, f)
+        .each(work, bits::of)
+        .each(out, bits::of)
+        .end();
 }
 
 // The balanced full run, the work buffer and the buffer of the balanced table, each of whose places holds 7 before.
 pub(crate) fn answer_balanced(rt: HostRuntime, cells: &[f64], work: &mut [f64]) {
     let r = run(rt);
     let mut out = [7.0f64; 4104];
-    let n = input::values_of(input::word(rt), &out);
+    let n = input::places_of(input::word(rt), &out);
     balanced(rt, r, cells, &mut out[..n], work);
 }
 
 // The value at a place of a view, by rows, columns, row and column: 1 and the value, or 0.
 pub(crate) fn answer_look(rt: HostRuntime, cells: &[f64]) {
-    match view::look_at(
-        cells,
-        input::word(rt),
-        input::word(rt),
-        input::word(rt),
-        input::word(rt),
-    ) {
-        Entry::Value(x) => pen::end(pen::put(pen::start(rt, b"look", 2, 1), bits::of(x))),
-        Entry::Outside => pen::end(pen::start(rt, b"look", 1, 0)),
+    let table = View {
+        values: cells,
+        rows: input::word(rt),
+        columns: input::word(rt),
+    };
+    match table.look(input::word(rt), input::word(rt)) {
+        Some(x) => Pen::start(rt, b"look", 2, 1).put(bits::of(x)).end(),
+        None => Pen::start(rt, b"look", 1, 0).end(),
     }
 }

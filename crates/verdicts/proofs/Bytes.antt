@@ -7,7 +7,7 @@ use native.Mathlib.Omega.{arith}
 use mathlib.Core.Path.{◌≡◌, refl, sym, subst}
 use mathlib.Core.Logic.{◌↔◌}
 use mathlib.Core.Bool.{Bool, true, false, cond, ◌&&◌}
-use mathlib.Core.List.{List, [], ◌∷◌, map}
+use mathlib.Core.List.{List, [], ◌∷◌}
 use lib.ListN.{length, get_or, replicate}
 use lib.Dec.{T, leb, leb→le, le→leb}
 use lib.Ieee.{Float}
@@ -15,19 +15,18 @@ use Rattle.order.specs.Order.{plus_zero}
 use Rattle.order.specs.Counting.{all}
 use Rattle.order.specs.Lists.{tabulate}
 use Rattle.order.proofs.Booleans.{and_left, and_right, and_both}
-use Rattle.order.proofs.Counts.{all_append, all_map}
+use Rattle.order.proofs.Counts.{all_append}
 use Rattle.order.proofs.Lists.{all-tabulate, all_replicate}
 use Rattle.columns.specs.Columns.{in_set}
 use Rattle.runs.specs.Stepdown.{next, record_of, steps_from, verdict_from, verdict_of, verdict_at, steps_of, full_run}
-use Rattle.runs.specs.FullRuns.{decision, accepted_run, is_rejected, is_aside}
+use Rattle.runs.specs.FullRuns.{accepted_run, is_rejected, is_aside}
 use Rattle.verdicts.specs.Verdicts.{verdict_byte}
 use Rattle.verdicts.specs.Internal.{small_bytes}
 use Rattle.runs.specs.declared.State.{State}
 use Rattle.runs.specs.declared.Step.{Step}
 use Rattle.runs.specs.declared.Verdict.{Verdict}
 use Rattle.runs.specs.declared.Verdict.TheVariants.{Rejected, Kept, Aside}
-use Rattle.runs.specs.declared.Decision.{Decision}
-use Rattle.runs.proofs.Told.{verdict-told}
+use Rattle.runs.proofs.ToldColumns.{verdict-told}
 
 -- ---- a run
 
@@ -82,14 +81,14 @@ run-tells X r z j h d = subst Tells (sym (verdict-told X r j h d)) (told (in_set
 
 -- ---- what a full run answers
 
-abbrev small : Decision → Bool
-small d = leb (verdict_byte d.verdict) 255
+abbrev small : Verdict → Bool
+small v = leb (verdict_byte v) 255
 
-pub run-bytes : (X : List (List Float)) (r : State) → r.steps ≡ 0 → T (small_bytes (accepted_run (full_run X r)).decisions)
+pub run-bytes : (X : List (List Float)) (r : State) → r.steps ≡ 0 → T (small_bytes (accepted_run (full_run X r)).verdicts)
 unfolding accepted_run full_run
 run-bytes X r h =
     let vs = tabulate r.columns (λ j. verdict_at r (steps_of X r) j) in
-    all_append small (map decision vs) (replicate (32 - length (map decision vs)) (decision (Kept plus_zero)))
-    (subst (λ (x : Bool). T x) (sym (all_map decision small vs)) (all-tabulate (λ v. small (decision v)) r.columns (λ j. verdict_at r (steps_of X r) j)
-    (λ j. le→leb (verdict_byte (verdict_at r (steps_of X r) j)) 255 (told (in_set r.live j) (verdict_of (steps_of X r) j) (verdict-step X r j h)).small)))
-    (all_replicate small (32 - length (map decision vs)) (decision (Kept plus_zero)) tt)
+    all_append small vs (replicate (32 - length vs) (Kept plus_zero))
+    (all-tabulate small r.columns (λ j. verdict_at r (steps_of X r) j)
+    (λ j. le→leb (verdict_byte (verdict_at r (steps_of X r) j)) 255 (told (in_set r.live j) (verdict_of (steps_of X r) j) (verdict-step X r j h)).small))
+    (all_replicate small (32 - length vs) (Kept plus_zero) tt)

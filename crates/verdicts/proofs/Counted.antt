@@ -1,46 +1,36 @@
 -- Laws of the count of rejected verdicts.
---   count_most, count-few   it is no more than the verdicts, and than those that are looked at
---   count-on                one verdict more
---   count-end               past the last verdict nothing is counted
---   count-answered              of a run that is answered, it is that of the verdicts that the run tells
-use Prim.Native.Nat.{ℕ, ◌+◌, ◌-◌, ◌≤◌, ◌<◌}
+--   count-few               it is no more than the verdicts that are looked at
+--   count-answered          of a run that is answered, it is that of the verdicts that the run tells
+use Prim.Native.Nat.{ℕ, ◌+◌, ◌-◌, ◌≤◌}
 use native.Mathlib.Omega.{arith}
-use native.Mathlib.Numerals.{add-one}
-use mathlib.Core.Path.{◌≡◌, sym, ap, ◌∙◌}
-use mathlib.Core.Bool.{Bool}
-use mathlib.Core.List.{List, [], ◌∷◌, map}
-use lib.ListN.{length, get_or, take, replicate, length-take, length-map}
-use lib.Seq.{take-suc, take_all, take_at}
+use mathlib.Core.Path.{◌≡◌, refl, sym, ap, ◌∙◌}
+use mathlib.Core.Bool.{Bool, true, false, cond}
+use mathlib.Core.List.{List}
+use lib.ListN.{length, take, replicate, length-take}
+use lib.Seq.{take_at}
+use Rattle.std.specs.List.{count_by}
+use Rattle.std.proofs.lemmas.List.Recursion.{is_count_by}
 use Rattle.order.specs.Counting.{bit, count}
 use Rattle.order.specs.Order.{plus_zero}
-use Rattle.order.proofs.Counts.{count-append, count-length, count_map}
+use Rattle.std.proofs.lemmas.List.Sums.{count_by-le-length}
 use Rattle.runs.specs.Stepdown.{Outcome}
-use Rattle.runs.specs.FullRuns.{decision, accepted_run, is_rejected}
-use Rattle.runs.specs.declared.Decision.{Decision}
+use Rattle.runs.specs.FullRuns.{accepted_run, is_rejected}
+use Rattle.runs.specs.declared.Verdict.{Verdict}
 use Rattle.runs.specs.declared.Verdict.TheVariants.{Kept}
 use Rattle.verdicts.specs.Verdicts.{rejected_count}
 
-pub count_most : (n : ℕ) (js : List Decision) → rejected_count n js ≤ length js
+count_by_is : {A : Type 0} (p : A → Bool) (xs : List A) → count_by p xs ≡ count p xs
+unfolding count
+count_by_is p xs = sym (is_count_by (count p) p refl (λ x ys. go (p x) (count p ys)) xs)
+  where
+    go : (b : Bool) (n : ℕ) → bit b + n ≡ cond b (1 + n) n
+    go true n = refl
+    go false n = omega arith
+
+pub count-few : (n : ℕ) (vs : List Verdict) → rejected_count n vs ≤ n
 unfolding rejected_count
-count_most n js = omega (arith, count-length (λ (j : Decision). is_rejected j.verdict) (take n js), length-take n js)
+count-few n vs = omega (arith, count_by-le-length is_rejected (take n vs), length-take n vs)
 
-pub count-few : (n : ℕ) (js : List Decision) → rejected_count n js ≤ n
-unfolding rejected_count
-count-few n js = omega (arith, count-length (λ (j : Decision). is_rejected j.verdict) (take n js), length-take n js)
-
-pub count-on : (i : ℕ) (js : List Decision) (d : Decision) (total : ℕ) → i < length js → total ≡ rejected_count i js → total + bit (is_rejected (get_or js i d).verdict) ≡ rejected_count (i + 1) js
-unfolding rejected_count count
-count-on i js d total h e =
-    let p : Decision → Bool = λ j. is_rejected j.verdict in
-    sym (ap (λ (n : ℕ). count p (take n js)) (add-one i) ∙ ap (count p) (take-suc js i d h) ∙ count-append p (take i js) (get_or js i d ∷ []) ∙ omega (arith, e))
-
-pub count-end : (i n : ℕ) (js : List Decision) → length js ≤ i → i ≤ n → rejected_count i js ≡ rejected_count n js
-unfolding rejected_count
-count-end i n js h k = ap (count (λ (j : Decision). is_rejected j.verdict)) (take_all i js h ∙ sym (take_all n js (omega arith)))
-
-pub count-answered : (n : ℕ) (o : Outcome) → length o.verdicts ≡ n → rejected_count n (accepted_run o).decisions ≡ count is_rejected o.verdicts
+pub count-answered : (n : ℕ) (o : Outcome) → length o.verdicts ≡ n → rejected_count n (accepted_run o).verdicts ≡ count is_rejected o.verdicts
 unfolding rejected_count accepted_run
-count-answered n o h =
-    let ds = map decision o.verdicts in
-    ap (count (λ (d : Decision). is_rejected d.verdict)) (take_at ds (replicate (32 - length ds) (decision (Kept plus_zero))) n (length-map o.verdicts decision ∙ h))
-    ∙ count_map decision (λ d. is_rejected d.verdict) o.verdicts
+count-answered n o h = ap (count_by is_rejected) (take_at o.verdicts (replicate (32 - length o.verdicts) (Kept plus_zero)) n h) ∙ count_by_is is_rejected o.verdicts

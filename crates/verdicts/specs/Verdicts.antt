@@ -1,18 +1,16 @@
 -- What is read off the verdicts of a full run. Definitions only.
---   verdict_byte v         what tells a verdict in a byte: the step that rejected, 0 where the column is kept, 255 where it is set aside (document 02, §4)
---   rejected_count n ds    how many of the first n verdicts are rejected
+--   verdict_byte v         what tells a verdict in a byte: the step that rejected, 0 where the column is kept, 255 where it is set aside
+--   rejected_count n vs    how many of the first n verdicts are rejected
 use Rattle.std.specs.Prelude.{ℕ, List, take}
-use Rattle.order.specs.Counting.{count}
+use Rattle.std.specs.List.{count_by}
 use Rattle.runs.specs.FullRuns.{is_rejected}
 use Rattle.runs.specs.declared.Verdict.{Verdict}
 use Rattle.runs.specs.declared.Verdict.TheVariants.{Rejected, Kept, Aside}
-use Rattle.runs.specs.declared.Decision.{Decision}
 
 abbrev pub verdict_byte : Verdict → ℕ
 verdict_byte (Rejected s c) = s
 verdict_byte (Kept c) = 0
 verdict_byte Aside = 255
 
-unfoldable pub rejected_count : ℕ → List Decision → ℕ
-unfolding count
-rejected_count n ds = count (λ d. is_rejected d.verdict) (take n ds)
+unfoldable pub rejected_count : ℕ → List Verdict → ℕ
+rejected_count n vs = count_by is_rejected (take n vs)

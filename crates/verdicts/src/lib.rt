@@ -1,12 +1,11 @@
 // What is read off the verdicts of a full run: the number that tells one, and how many are rejected. The report and the C calls tell these.
 #![tactic(auto)]
 
-ghost use Rattle.std.specs.Prelude.{◌≡◌, ◌≤◌};
-ghost use Rattle.order.specs.Counting.{bit};
+ghost use Rattle.std.specs.Prelude.{◌≡◌};
 ghost use Rattle.runs.specs.FullRuns.{is_rejected};
 ghost use Rattle.verdicts.specs.Verdicts.{verdict_byte, rejected_count};
 
-use runs::{Decision, Verdict};
+use runs::Verdict;
 
 // The step that rejected; 0 where the verdict is kept, and 255 where the column is set aside.
 pub fn verdict_byte(v: Verdict) -> usize
@@ -19,31 +18,20 @@ pub fn verdict_byte(v: Verdict) -> usize
     }
 }
 
-// 1 where the verdict is rejected, and else 0.
-fn tally(v: Verdict) -> usize
-    ensures { (result ≡ bit (is_rejected v)) × (result ≤ 1) }
+fn is_rejected(v: &Verdict) -> bool
+    ensures { result ≡ is_rejected v.now }
 {
     match v {
-        Verdict::Rejected(_, _) => 1,
-        Verdict::Kept(_) => 0,
-        Verdict::Aside => 0,
+        Verdict::Rejected(_, _) => true,
+        Verdict::Kept(_) => false,
+        Verdict::Aside => false,
     }
 }
 
 // How many of the first n verdicts are rejected; of all 32 where n is more.
-pub fn rejected_count(decisions: [Decision; 32], n: usize) -> usize
-    ensures { result ≡ rejected_count n decisions }
+#[tactic(auto, unfolding(crate::specs::Verdicts::rejected_count))]
+pub fn rejected_count(verdicts: [Verdict; 32], n: usize) -> usize
+    ensures { result ≡ rejected_count n verdicts }
 {
-    let mut total: usize = 0;
-    let mut i: usize = 0;
-    while i < n {
-        if i == 32 {
-            return total;
-        }
-        let d = decisions[i];
-        let v = d.verdict;
-        total += tally(v);
-        i += 1;
-    }
-    total
+    verdicts.iter().take(n).filter(|v| is_rejected(*v)).count()
 }

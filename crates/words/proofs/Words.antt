@@ -98,8 +98,3 @@ words_of-at (b0 ∷ b1 ∷ b2 ∷ b3 ∷ bs) (suc i) h =
   where
     sum4 : {p q r s p' q' r' s' : ℕ} → p ≡ p' → q ≡ q' → r ≡ r' → s ≡ s' → p + 256 * q + 65536 * r + 16777216 * s ≡ p' + 256 * q' + 65536 * r' + 16777216 * s'
     sum4 e f g h = omega arith
-
--- four bytes of a file make its word
-pub word-is : (bs : List ℕ) (i b0 b1 b2 b3 : ℕ) → 4 * i + 4 ≤ length bs → b0 ≡ get_or bs (4 * i) 0 → b1 ≡ get_or bs (4 * i + 1) 0 → b2 ≡ get_or bs (4 * i + 2) 0
-    → b3 ≡ get_or bs (4 * i + 3) 0 → b0 + 256 * b1 + 65536 * b2 + 16777216 * b3 ≡ word (words_of bs) i
-word-is bs i b0 b1 b2 b3 h e0 e1 e2 e3 = omega (arith, words_of-at bs i h)

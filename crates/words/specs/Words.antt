@@ -1,13 +1,14 @@
--- The words of a trial file (document 01): 32 bits, little-endian; bits 31 to 28 are the kind. Definitions only.
+-- The words of a trial file: 32 bits, little-endian; bits 31 to 28 are the kind. Definitions only.
 --   Bytes bs                          every member is a byte
 --   words_of bytes                     the words that bytes hold
 --   word_bytes w, bytes_of ws           the bytes of a word, of words
 --   word ws i                         the word at place i; a missing word reads as 0, whose kind no place needs
 --   kind_of w                          bits 31-28
 --   level_kind .. end_kind            the kinds 1, 2 and 5 (the shapes of pairs and of shops), 3, 4 and 15
+--   code kind                         the number of a kind, by its name
 --   a_of, b_of                        level: bits 27-14, 13-0
 --   unused_of, k_of, offers_of, pairs_of  shape of pairs: bits 27-24, 23-16, 15-8, 7-0
---   shops_k, shops_offers, shop_count, treated_of  shape of shops without partners (document 02, §6): bits 27-24, 23-16, 15-8, 7-0
+--   shops_k, shops_offers, shop_count, treated_of  shape of shops without partners: bits 27-24, 23-16, 15-8, 7-0
 --   no_shape w                         the word is of neither kind of shape
 --   spare_of w                         bits of a shape that have to be 0: those of shops have none
 --   digits_of, code_of                 offer: bits 27-24, 23-0
@@ -23,6 +24,8 @@ use Rattle.trial.specs.declared.Design.{Design}
 use Rattle.trial.specs.declared.Design.TheVariants.{Paired, Unpaired}
 use Rattle.trial.specs.declared.Level.{Level}
 use Rattle.trial.specs.declared.Shape.{Shape}
+use Rattle.words.specs.declared.kind.Kind.{Kind}
+use Rattle.words.specs.declared.kind.Kind.TheVariants.{Level as OfLevel, Pairs, Offer, Figure, Shops, End}
 
 -- ---- words and bytes
 
@@ -68,6 +71,14 @@ difference_kind = 4
 
 abbrev pub end_kind : ℕ
 end_kind = 15
+
+abbrev pub code : Kind → ℕ
+code OfLevel = level_kind
+code Pairs = paired_kind
+code Offer = offer_kind
+code Figure = difference_kind
+code Shops = unpaired_kind
+code End = end_kind
 
 abbrev pub a_of : ℕ → ℕ
 a_of w = w / 16384 % 16384

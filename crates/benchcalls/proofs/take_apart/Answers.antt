@@ -8,4 +8,4 @@ use Rattle.benchcalls.proofs.take_apart.Goals as goal
 pub returns : goal.returns
 returns c =
     let t = c.args.t in
-    record { numbers_after = ap (λ (l : List ℕ). t.level.a ∷ t.level.b ∷ t.shape.k ∷ t.shape.offers ∷ l) (one_by_one _ _ c.layout-laid.ensures); codes_after = refl; digits_after = refl; figures_after = refl }
+    record { numbers_after = ap (λ (l : List ℕ). t.level.a ∷ t.level.b ∷ t.shape.k ∷ t.shape.offers ∷ l) (one_by_one _ _ c.layout.ensures); codes_after = refl; digits_after = refl; figures_after = refl }

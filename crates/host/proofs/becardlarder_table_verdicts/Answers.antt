@@ -1,42 +1,45 @@
 -- `becardlarder_table_verdicts`: where there is no byte for each column only the refusal is looked for; otherwise the table is run, the verdicts are written and the rejected counted.
+use Prim.Native.Nat.{ℕ, ◌+◌}
 use native.Mathlib.Omega.{arith}
+use mathlib.Core.Path.{ap, ◌∙◌}
+use lib.ListN.{length-take}
+use borrow.Author.Rules.{rules}
 use Rattle.host.proofs.VerdictBytes.{count_fits}
-use Rattle.host.proofs.Tables.{table_fits, table-known, table-short, table-refused, table_done}
+use Rattle.host.proofs.Lent.{part}
+use Rattle.host.proofs.Tables.{table-known, table_short, table-early, table-refused, table_done}
 use Rattle.host.proofs.becardlarder_table_verdicts.Goals as goal
 
-pub overflow_add-result : goal.overflow_add-result
-overflow_add-result c = record { fits = omega (arith, table_fits _ _ _ _ _ _ _ _ _ c.full_run-run.ensures.value) }
+pub returns-in-Ok : goal.returns-in-Ok
+returns-in-Ok c =
+    let d = table_short _ _ _ _ _ _ _ c.args.work.now c.args.verdicts.now _ c.in-Ok.ensures c.if-verdicts-columns.true in
+    record { value = ap (λ (n : ℕ). 100 + n) c.from.ensures ∙ d.0; work_after = d.1.0; verdicts_after = d.1.1 }
 
-pub returns-then-verdicts-columns : goal.returns-then-verdicts-columns
-returns-then-verdicts-columns c =
-    let the-clauses = (
-    table-short _ _ _ _ _ _ _ c.args.work.now c.args.verdicts.now c.if-verdicts-columns.true _ c.full_run-run.ensures.value _ c.full_run-run.ensures.work_after
-    ) in
-    record { value = the-clauses.0; work_after = the-clauses.1.0; verdicts_after = the-clauses.1.1 }
+pub returns-in-Err : goal.returns-in-Err
+returns-in-Err c =
+    let d = table-early _ _ _ _ _ _ _ c.args.work.now c.args.verdicts.now c.in-Err.early c.in-Err.ensures in
+    record { value = ap (λ (n : ℕ). 100 + n) c.from-in-Err.ensures ∙ d.0; work_after = d.1.0; verdicts_after = d.1.1 }
 
-pub overflow_add-result-then-refusal-ne0 : goal.overflow_add-result-then-refusal-ne0
-overflow_add-result-then-refusal-ne0 c = record { fits = omega (arith, table_fits _ _ _ _ _ _ _ _ _ c.full_run-run-2.ensures.value) }
+pub bytes_of-requires : goal.bytes_of-requires
+bytes_of-requires c = (table-known _ _ _ _ _ _ _ _ _ c.in-Ok-full_run.ensures.value).1
 
-pub returns-then-refusal-ne0 : goal.returns-then-refusal-ne0
-returns-then-refusal-ne0 c =
-    let the-clauses = (
-    table-refused _ _ _ _ _ _ _ c.args.work.now c.args.verdicts.now c.if-verdicts-columns.false _ c.full_run-run-2.ensures.value _ c.full_run-run-2.ensures.work_after c.if-refusal-ne0.true
-    ) in
-    record { value = the-clauses.0; work_after = the-clauses.1.0; verdicts_after = the-clauses.1.1 }
+pub slice_bounds-put-end : goal.slice_bounds-put-end
+slice_bounds-put-end c = (part _ c.bytes_of.result (table-known _ _ _ _ _ _ _ _ _ c.in-Ok-full_run.ensures.value).0 (search rules)).0
 
-pub put_verdicts-requires : goal.put_verdicts-requires
-put_verdicts-requires c =
-    let k = table-known _ _ _ _ _ _ _ _ _ c.full_run-run-2.ensures.value c.if-refusal-ne0.false in
-    (k.0, c.if-verdicts-columns.false, k.1)
+pub slice_bounds-put-end-in-Ok-full_run : goal.slice_bounds-put-end-in-Ok-full_run
+slice_bounds-put-end-in-Ok-full_run c = (part _ c.bytes_of.result (table-known _ _ _ _ _ _ _ _ _ c.in-Ok-full_run.ensures.value).0 (search rules)).1
+
+pub put-requires : goal.put-requires
+put-requires c = simp length-take (omega (arith, c.if-verdicts-columns.false))
 
 pub overflow_cast-result : goal.overflow_cast-result
-overflow_cast-result c =
-    let k = table-known _ _ _ _ _ _ _ _ _ c.full_run-run-2.ensures.value c.if-refusal-ne0.false in
-    record { fits = count_fits _ _ _ c.rejected_count.ensures (omega (arith, k.0)) }
+overflow_cast-result c = record { fits = count_fits _ _ _ c.rejected_count.ensures (omega (arith, (table-known _ _ _ _ _ _ _ _ _ c.in-Ok-full_run.ensures.value).0)) }
 
-pub returns : goal.returns
-returns c =
-    let the-clauses = (
-    table_done _ _ _ _ _ _ _ c.args.work.now c.args.verdicts.now c.if-verdicts-columns.false _ c.full_run-run-2.ensures.value _ c.full_run-run-2.ensures.work_after c.if-refusal-ne0.false _ c.put_verdicts.ensures _ c.rejected_count.ensures
-    ) in
-    record { value = the-clauses.0; work_after = the-clauses.1.0; verdicts_after = the-clauses.1.1 }
+pub returns-in-Ok-full_run : goal.returns-in-Ok-full_run
+returns-in-Ok-full_run c =
+    let d = table_done _ _ _ _ _ _ _ c.args.work.now c.args.verdicts.now _ c.in-Ok-full_run.ensures.value _ c.in-Ok-full_run.ensures.work_after c.if-verdicts-columns.false _ c.rejected_count.ensures _ c.bytes_of.ensures _ c.put.ensures in
+    record { value = d.0; work_after = d.1.0; verdicts_after = d.1.1 }
+
+pub returns-in-Err-full_run : goal.returns-in-Err-full_run
+returns-in-Err-full_run c =
+    let d = table-refused _ _ _ _ _ _ _ c.args.work.now c.args.verdicts.now c.in-Err-full_run.refusal c.in-Err-full_run.ensures.value _ c.in-Err-full_run.ensures.work_after in
+    record { value = ap (λ (n : ℕ). 100 + n) c.from-in-Err-full_run.ensures ∙ d.0; work_after = d.1.0; verdicts_after = d.1.1 }

@@ -8,13 +8,13 @@ use Rattle.host.proofs.becardlarder_trial_verdicts.Goals as goal
 
 pub tell-requires : goal.tell-requires
 unfolding file_run trial_run
-tell-requires c = file-tellable trial_rows _ _ c.file_run-answer.ensures
+tell-requires c = file-tellable trial_rows _ _ c.file_run.ensures
 
 pub returns : goal.returns
 unfolding file_run trial_run trial_verdicts_answer trial_verdicts_buffer
 returns c =
     let the-clauses = (
     let a = c.args in
-    file-told trial_rows a.file.now _ c.file_run-answer.ensures a.verdicts.now _ _ c.tell.ensures
+    file-told trial_rows a.file.now _ c.file_run.ensures a.verdicts.now _ _ c.tell.ensures
     ) in
     record { value = the-clauses.0; verdicts_after = the-clauses.1 }

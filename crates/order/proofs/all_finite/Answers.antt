@@ -1,18 +1,12 @@
--- `order::all_finite` meets its contract. The invariant: what is counted and what is still to be counted make the whole.
-use mathlib.Core.Path.{sym, ◌∙◌}
-use native.Mathlib.Omega.{arith}
-use Prim.Native.Nat.{◌-◌}
-use lib.Ieee.{nan}
+-- `order::all_finite` meets its contract.
+use borrow.Author.Rules.{rules}
+use borrow.Author.Tests.{tests}
+use mathlib.Core.Path.{◌∙◌}
+use Rattle.std.proofs.lemmas.Iterator.{YieldsList-from_slice}
+use Rattle.std.proofs.lemmas.Iterator.Search.{all_from_yields_List}
 use Rattle.order.specs.Order.{finite}
-use Rattle.order.proofs.Counts.{all-counted}
-use Rattle.order.proofs.Slices.{counted-in, counted-past, counted-all}
+use Rattle.order.proofs.Library.{all_is}
 use Rattle.order.proofs.all_finite.Goals as goal
-use Rattle.order.proofs.all_finite.Goals.{else-is_finite, then-is_finite}
-
-pub loop-i-preserved : goal.loop-i-preserved
-loop-i-preserved c =
-    let l = c.loop-i.invariant in
-    elim c.if-is_finite.branch [ then-is_finite w ↦ (omega arith, counted-in _ _ _ nan _ _ _ c.loop-i-test.true (sym c.is_finite.ensures ∙ w.if-is_finite.true) w.n-is l.1, omega arith) | else-is_finite w ↦ (omega arith, counted-past _ _ _ nan _ _ _ c.loop-i-test.true (sym c.is_finite.ensures ∙ w.if-is_finite.false) w.n-is l.1, omega arith) ]
 
 pub returns : goal.returns
-returns c = all-counted finite _ _ (counted-all _ _ _ nan _ _ c.loop-i-test.false c.loop-i.invariant.1)
+returns c = all_from_yields_List finite _ _ _ c.all.ensures.ran (YieldsList-from_slice c.args.xs.now cc) (λ x b q k. search (rules, tests)) ∙ all_is finite c.args.xs.now

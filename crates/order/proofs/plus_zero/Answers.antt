@@ -40,6 +40,6 @@ pub returns-then-x : goal.returns-then-x
 unfolding of_bits
 returns-then-x c = is_zero c.args.x c.if-x.true
 
-pub returns : goal.returns
+pub returns-else-x : goal.returns-else-x
 unfolding of_bits
-returns c = no_zero c.args.x c.if-x.false
+returns-else-x c = no_zero c.args.x c.if-x.false

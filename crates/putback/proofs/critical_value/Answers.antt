@@ -4,10 +4,10 @@ use Rattle.putback.proofs.BarOf.{one-some, one-bar}
 use Rattle.putback.proofs.critical_value.Goals as goal
 
 pub alone-requires : goal.alone-requires
-alone-requires c = let q = c.requires in (q.0, q.1, q.4, q.2, q.3, c.if-f-eq1.true)
+alone-requires c = let q = c.requires in (q.0, q.3, q.1, q.2, c.if-table-eq1.true)
 
 pub of_branch-requires : goal.of_branch-requires
-of_branch-requires c = let q = c.requires in (q.0, q.1, q.2, alone_at q.0.k-some q.3 q.4, q.5, q.6, one-some _ _)
+of_branch-requires c = let q = c.requires in (q.0, q.1, alone_at c.args.table.checked.k-some q.2 q.3, q.4, q.5, one-some _ _)
 
 pub returns : goal.returns
-returns c = let w = c.of_branch.ensures in (one-bar _ c.requires.0 _ w.0, w.1)
+returns c = let w = c.of_branch.ensures in (one-bar _ c.args.table.checked _ w.0, w.1)

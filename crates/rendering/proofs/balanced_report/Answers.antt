@@ -2,22 +2,26 @@
 use Rattle.trialbalance.specs.FileBalance.{file_balanced_run}
 use Rattle.trialbalance.specs.TrialBalance.{trial_balanced_run}
 use Rattle.rendering.specs.Reports.{balanced_report_of}
-use Rattle.rendering.specs.Internal.{text_of}
+use Rattle.rendering.specs.Internal.{text_of, PrintableFile}
 use Rattle.rendering.proofs.FileTexts.{text-by}
+use Rattle.rendering.proofs.Lengths.{balanced-report-fits}
 use Rattle.rendering.proofs.PrintableFiles.{balanced-printable, printable-file}
 use Rattle.text.proofs.Rendered as texts
-use mathlib.Core.Path.{ap, ◌∙◌}
+use mathlib.Core.Path.{ap, sym, subst, ◌∙◌}
+use Rattle.std.proofs.Common.{IfOk}
 use Rattle.rendering.proofs.balanced_report.Goals as goal
 
-pub give-requires : goal.give-requires
+pub compose-requires-clause-printable : goal.compose-requires-clause-printable
 unfolding file_balanced_run
-give-requires c = printable-file trial_balanced_run balanced-printable _ _ c.file_balanced_run.ensures
+compose-requires-clause-printable c = subst (λ r. IfOk r PrintableFile) (sym c.file_balanced_run.ensures) (printable-file trial_balanced_run balanced-printable c.args.file.now)
+
+pub compose-requires-clause-room : goal.compose-requires-clause-room
+unfolding file_balanced_run balanced_report_of
+compose-requires-clause-room c = rw (c.file_balanced_run.ensures, text-by trial_balanced_run c.args.file.now) (balanced-report-fits c.args.file.now)
 
 pub returns : goal.returns
 unfolding file_balanced_run balanced_report_of
 returns c =
-    let the-clauses = (
-    let a = c.args in
-    texts.text-by a.out.now (ap text_of c.file_balanced_run.ensures ∙ text-by trial_balanced_run a.file.now) c.give.ensures
-    ) in
-    record { value = the-clauses.0; out_after = the-clauses.1 }
+    let is = c.as_bytes.ensures.value ∙ c.deref.ensures.0 ∙ c.compose.ensures ∙ ap text_of c.file_balanced_run.ensures ∙ text-by trial_balanced_run c.args.file.now in
+    let given = texts.text-by c.args.out.now is (c.give.ensures.value, c.give.ensures.out_after) in
+    record { value = given.0; out_after = given.1 }

@@ -1,11 +1,8 @@
--- `offer`: the parts of the line, one after the other.
-use Rattle.text.proofs.Writes.{then}
-use native.Mathlib.Omega.{arith}
+-- `offer`: the printed code takes as many places as it has digits.
+use Rattle.std.proofs.Common.{arith, rules}
+use lib.ListN.{length-append}
+use Rattle.text.proofs.Numbers.{length_printed}
 use Rattle.sheet.proofs.offer.Goals as goal
 
-pub returns : goal.returns
-returns c =
-    let p = c.put_printed-at1.ensures in
-    let f = c.put_field-at2.ensures in
-    let e = c.put.ensures in
-    (then p.0 (then f.0 e), omega (arith, p.1, f.1, e.ends))
+pub push_code-requires : goal.push_code-requires
+push_code-requires c = (search rules, omega (arith, simp (length-append, length_printed) at c.requires.room))

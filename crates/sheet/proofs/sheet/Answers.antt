@@ -1,22 +1,20 @@
--- `sheet`: the text is composed in a space of its own, and given into the buffer.
-use Rattle.text.proofs.Rendered.{text-taken, text-by}
-use Rattle.sheet.proofs.Printable.{printable-file}
-use Rattle.sheet.proofs.FileTexts.{text-is}
-use lib.Seq.{length-take-le}
-use mathlib.Core.Path.{sym}
-use native.Mathlib.Omega.{arith}
+-- `sheet`: the text for the file's figures is its sheet.
+use Rattle.std.proofs.Common.{◌∙◌, ◌≤◌, ap, sym, subst, IfOk}
+use Rattle.limits.specs.Limits.{offers_most}
+use Rattle.text.proofs.Rendered.{text-by}
+use Rattle.sheet.specs.Internal.{text_of}
+use Rattle.sheet.proofs.FileTexts.{text-is, few-offers}
+use Rattle.sheet.proofs.Lengths.{sheet-fits}
 use Rattle.sheet.proofs.sheet.Goals as goal
 
-pub compose-n-requires : goal.compose-n-requires
-compose-n-requires c = (omega arith, printable-file _ _ c.file_figures-f.ensures)
+pub compose-requires-clause-few : goal.compose-requires-clause-few
+compose-requires-clause-few c = subst (λ r. IfOk r (λ f. f.trial.shape.offers ≤ offers_most)) (sym c.file_figures.ensures) (few-offers c.args.file.now)
 
-pub slice_bounds-give-end : goal.slice_bounds-give-end
-slice_bounds-give-end c = let p = c.compose-n in sym (length-take-le _ p.new.out (omega (arith, p.ensures.1, p.auto.out)))
+pub compose-requires-clause-room : goal.compose-requires-clause-room
+compose-requires-clause-room c = rw (c.file_figures.ensures, text-is c.args.file.now) (sheet-fits c.args.file.now)
 
 pub returns : goal.returns
 returns c =
-    let the-clauses = (
-    let a = c.args in
-    text-by a.out.now (text-taken _ c.compose-n.ensures.0 (text-is a.file.now _ c.file_figures-f.ensures)) (c.give.ensures.value, c.give.ensures.out_after)
-    ) in
-    record { value = the-clauses.0; out_after = the-clauses.1 }
+    let is = c.as_bytes.ensures.value ∙ c.deref.ensures.0 ∙ c.compose.ensures ∙ ap text_of c.file_figures.ensures ∙ text-is c.args.file.now in
+    let given = text-by c.args.out.now is (c.give.ensures.value, c.give.ensures.out_after) in
+    record { value = given.0; out_after = given.1 }

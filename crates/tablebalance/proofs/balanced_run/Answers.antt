@@ -1,41 +1,24 @@
 -- `balanced_run`: the checks, the balanced table, and its full run.
-use mathlib.Core.Path.{sym}
-use lib.Seq.{length-take-le}
-use Rattle.tablebalance.proofs.Calls.{run-turned, run_short, run_room, run-done}
+use borrow.Author.Tests.{ltb-false}
+use mathlib.Core.Path.{◌∙◌}
+use Rattle.tablebalance.proofs.Calls.{work-kept, not-made, run-answer, run-out, run-work}
 use Rattle.tablebalance.proofs.balanced_run.Goals as goal
 
-pub returns-then-n-ne0 : goal.returns-then-n-ne0
-returns-then-n-ne0 c =
-    let the-clauses = (
-    let a = c.args in
-    run-turned _ _ _ _ _ _ _ a.out.now a.work.now _ c.table_run_refusal-n.ensures _ c.if-n-ne0.true c.refused.ensures
-    ) in
-    record { value = the-clauses.0; out_after = the-clauses.1.0; work_after = the-clauses.1.1 }
+pub returns-in_err-check_table_run-clause-work_after : goal.returns-in_err-check_table_run-clause-work_after
+returns-in_err-check_table_run-clause-work_after c = work-kept _ _ _ _ _ _ _ c.args.out.now c.args.work.now _ c.in_err-check_table_run.ensures
 
-pub returns-then-out-total : goal.returns-then-out-total
-returns-then-out-total c =
-    let the-clauses = (
-    let a = c.args in
-    run_short _ _ _ _ _ _ _ a.out.now a.work.now _ c.table_run_refusal-n.ensures c.if-n-ne0.false _ c.if-out-total.true c.refused-then-out-total.ensures
-    ) in
-    record { value = the-clauses.0; out_after = the-clauses.1.0; work_after = the-clauses.1.1 }
-
-pub slice_bounds-full_run-end-2 : goal.slice_bounds-full_run-end-2
-slice_bounds-full_run-end-2 c =
-    let a = c.args in
-    let e = c.table_run_refusal-n.ensures in
-    let z = c.if-n-ne0.false in
-    let h = c.if-out-total.false in
-    sym (length-take-le _ _ (run_room _ _ _ _ _ _ _ a.out.now a.work.now _ e z h _ c.balanced_table.ensures.out_after))
+pub returns-in_err-balanced_table : goal.returns-in_err-balanced_table
+returns-in_err-balanced_table c = absurd (not-made _ _ _ _ _ _ _ c.args.out.now c.args.work.now c.in_ok-check_table_run.ensures (ltb-false _ _ c.in_ok-if_true.ensures.passed) _ c.in_err-balanced_table.ensures.value)
 
 pub returns : goal.returns
 returns c =
-    let the-clauses = (
     let a = c.args in
-    let e = c.table_run_refusal-n.ensures in
-    let z = c.if-n-ne0.false in
-    let h = c.if-out-total.false in
+    let e = c.in_ok-check_table_run.ensures in
+    let h = ltb-false _ _ c.in_ok-if_true.ensures.passed in
+    let m = c.balanced_table.ensures.out_after in
     let f = c.full_run.ensures in
-    run-done _ _ _ _ _ _ _ a.out.now a.work.now _ e z h _ c.balanced_table.ensures.out_after _ _ f.value f.work_after
-    ) in
-    record { value = the-clauses.0; out_after = the-clauses.1.0; work_after = the-clauses.1.1 }
+    record {
+      value = f.value ∙ run-answer _ _ _ _ _ _ _ a.out.now a.work.now e h _ m;
+      out_after = run-out _ _ _ _ _ _ _ a.out.now a.work.now e h _ m;
+      work_after = f.work_after ∙ run-work _ _ _ _ _ _ _ a.out.now a.work.now e h _ m;
+    }

@@ -1,30 +1,31 @@
--- `trial::check` meets its contract: each answer is the first condition of the record's list that holds.
-use mathlib.Core.Path.{◌≡◌}
+-- `trial::check` meets its contract: the record's list, part by part.
+use mathlib.Core.Path.{◌≡◌, sym, ◌∙◌}
 use native.Mathlib.Omega.{arith}
 use lib.ListN.{length}
-use Rattle.limits.specs.Limits.{figures_most}
-use Rattle.trial.proofs.Conditions.{refusal-heading, places-held, refusal-offers, refusal-figures}
 use borrow.Author.Rules.{rules}
+use Rattle.limits.specs.Limits.{figures_most}
+use Rattle.std.proofs.lemmas.Result.{err_from_is_err_and}
+use Rattle.trial.proofs.Conditions.{figures_sliced, heading_err, offers_err, figures_left, places_held}
 use Rattle.trial.proofs.check.Goals as goal
 
-pub returns-then-f-ne0 : goal.returns-then-f-ne0
-returns-then-f-ne0 c = refusal-heading _ _ c.heading-f.ensures c.if-f-ne0.true
+pub returns-in_err-heading : goal.returns-in_err-heading
+returns-in_err-heading c =
+    let p = err_from_is_err_and c.from_residual.result c.from_residual.ensures.1 in
+    rw (p.1, p.2) (sym (heading_err c.args.t tt tt _ (sym c.in_err-heading.ensures)))
 
-pub offers-r-requires : goal.offers-r-requires
-offers-r-requires c = (places-held c.args.t _ c.heading-f.ensures c.if-f-ne0.false).0
+pub offers-requires : goal.offers-requires
+offers-requires c = (places_held _ _ (sym c.in_ok-heading.ensures)).0
 
-pub returns-then-r-ne0 : goal.returns-then-r-ne0
-returns-then-r-ne0 c = refusal-offers _ _ c.heading-f.ensures c.if-f-ne0.false _ c.offers-r.ensures c.if-r-ne0.true
+pub returns-in_err-offers : goal.returns-in_err-offers
+returns-in_err-offers c =
+    let p = err_from_is_err_and c.from_residual-in_err-offers.result c.from_residual-in_err-offers.ensures.1 in
+    rw (p.1, p.2) (sym (offers_err c.args.t tt tt _ (sym c.in_ok-heading.ensures) _ (sym c.in_err-offers.ensures)))
 
-pub figure_count-n-requires : goal.figure_count-n-requires
-figure_count-n-requires c = places-held c.args.t _ c.heading-f.ensures c.if-f-ne0.false
-
-pub figures-requires : goal.figures-requires
-figures-requires c =
-    let n = c.figure_count-n.ensures in
-    let figures : length c.args.t.figures ≡ figures_most = search rules in
-    omega arith
+pub figure_count-requires : goal.figure_count-requires
+figure_count-requires c = places_held _ _ (sym c.in_ok-heading.ensures)
 
 pub returns : goal.returns
 returns c =
-    refusal-figures _ _ c.heading-f.ensures c.if-f-ne0.false _ c.offers-r.ensures c.if-r-ne0.false _ _ c.figure_count-n.ensures.0 c.figures.ensures
+    let n = c.figure_count.ensures in
+    let places : length c.args.t.figures ≡ figures_most = search rules in
+    c.figures.ensures ∙ figures_sliced c.args.t _ n.0 (omega (arith, n.1, places)) ∙ sym (figures_left c.args.t tt tt _ (sym c.in_ok-heading.ensures) (sym c.in_ok-offers.ensures))

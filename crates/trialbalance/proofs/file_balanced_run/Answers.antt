@@ -1,9 +1,28 @@
 -- `file_balanced_run`: read, and where nothing is refused the balanced table of the trial is run.
-use Rattle.trialbalance.proofs.Files.{balanced-refused, balanced-told}
+use Rattle.std.proofs.Common.{◌≡◌, sym}
+use Rattle.std.proofs.lemmas.Result.{err_from_is_err_and}
+use Rattle.runs.specs.FullRuns.{accepted_run}
+use Rattle.runs.specs.declared.FullRun.{FullRun}
+use Rattle.trial.specs.declared.Trial.{Trial}
+use Rattle.trialrun.proofs.Files.{pair_of, file-refused, never-turned, file-done}
+use Rattle.trialbalance.specs.TrialBalance.{trial_balanced_run, trial_balanced_answer}
+use Rattle.trialbalance.specs.FileBalance.{file_balanced_run}
 use Rattle.trialbalance.proofs.file_balanced_run.Goals as goal
 
-pub returns-then-n-ne0 : goal.returns-then-n-ne0
-returns-then-n-ne0 c = balanced-refused _ _ c.read-reading.ensures _ c.if-n-ne0.true c.refused.ensures
+abbrev done : Trial → FullRun
+done t = accepted_run (trial_balanced_run t)
+
+pub returns-in_err-trial : goal.returns-in_err-trial
+unfolding file_balanced_run
+returns-in_err-trial c =
+    let p = err_from_is_err_and c.from_residual.result c.from_residual.ensures.1 in
+    rw (p.1, p.2) (file-refused c.args.file.now pair_of done _ (sym c.in_err-trial.ensures))
+
+-- nothing turns away the trial of an accepted file
+pub returns-in_err-run : goal.returns-in_err-run
+unfolding trial_balanced_answer
+returns-in_err-run c = absurd (never-turned c.args.file.now pair_of done _ (sym c.in_ok-trial.ensures) _ (sym c.in_err-run.ensures.value))
 
 pub returns : goal.returns
-returns c = balanced-told _ _ c.read-reading.ensures _ c.if-n-ne0.false c.balanced_run-run.ensures.value
+unfolding file_balanced_run trial_balanced_answer
+returns c = file-done c.args.file.now pair_of done _ (sym c.in_ok-trial.ensures) _ (sym c.in_ok-run.ensures.value)

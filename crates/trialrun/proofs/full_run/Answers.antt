@@ -1,59 +1,52 @@
 -- `full_run`: the table is made, and run with row 0 observed over the live offers.
-use Rattle.trialrun.proofs.Tabled.{call-turned, small, room, good, front}
-use Rattle.trialrun.proofs.Runs.{level-known, startable, told, left, table-checked}
-use Rattle.runs.specs.FullRuns.{accepted_run, refused_run}
-use Rattle.trial.specs.Exchange.{trial_rows, table_of}
-use Rattle.trial.proofs.Tables.{table_of-rows}
-use Rattle.trialrun.specs.TrialRuns.{trial_run, trial_answer, run_table}
-use native.Mathlib.Omega.{arith}
-use mathlib.Core.Path.{sym}
+use Rattle.std.proofs.Common.{◌≡◌, sym, ◌∙◌, arith}
+use Rattle.std.proofs.lemmas.Result.{err_from_is_err_and}
 use lib.Seq.{length-take-le}
+use Rattle.runs.specs.FullRuns.{accepted_run}
+use Rattle.trial.specs.Exchange.{trial_rows}
+use Rattle.trial.proofs.Tables.{table_of-rows}
+use Rattle.trialrun.specs.TrialRuns.{trial_run, trial_answer, run_work}
+use Rattle.trialrun.proofs.Tabled.{turned-answer, turned-buffer, small, room, good, front}
+use Rattle.trialrun.proofs.Runs.{level-known, startable, told, left, table-checked}
 use Rattle.trialrun.proofs.full_run.Goals as goal
 
-pub returns-then-s-ne0 : goal.returns-then-s-ne0
-unfolding trial_answer run_table
-returns-then-s-ne0 c =
-    let the-clauses = (
-    let a = c.args in
-    let p = c.table_for_run-s.ensures in
-    call-turned a.t a.table.now a.work.now _ p.value _ p.table_after (accepted_run (trial_run a.t)) refused_run (table_of a.t) _ c.if-s-ne0.true c.refused.ensures
-    ) in
-    record { value = the-clauses.0; table_after = the-clauses.1.0; work_after = the-clauses.1.1 }
+pub returns-in_err-size-clause-value : goal.returns-in_err-size-clause-value
+unfolding trial_answer
+returns-in_err-size-clause-value c =
+    let p = err_from_is_err_and c.from_residual.result c.from_residual.ensures.1 in
+    rw (p.1, p.2) (sym (turned-answer c.args.t c.args.table.now c.args.work.now _ (sym c.in_err-size.ensures.value) (accepted_run (trial_run c.args.t))))
+
+pub returns-in_err-size-clause-table_after : goal.returns-in_err-size-clause-table_after
+returns-in_err-size-clause-table_after c = c.in_err-size.ensures.table_after
+
+pub returns-in_err-size-clause-work_after : goal.returns-in_err-size-clause-work_after
+unfolding run_work
+returns-in_err-size-clause-work_after c = sym (turned-buffer c.args.t c.args.table.now c.args.work.now _ (sym c.in_err-size.ensures.value) _ _)
 
 pub overflow_mul-total : goal.overflow_mul-total
-overflow_mul-total c =
-    let a = c.args in
-    let p = c.table_for_run-s.ensures in
-    let f = small a.t a.table.now a.work.now _ p.value _ p.table_after c.if-s-ne0.false in
-    record { fits = omega (arith, f) }
+overflow_mul-total c = record { fits = omega (arith, small c.args.t c.args.table.now c.args.work.now _ (sym c.in_ok-size.ensures.value)) }
 
 pub allowance-e-requires : goal.allowance-e-requires
-allowance-e-requires c =
-    let a = c.args in
-    let p = c.table_for_run-s.ensures in
-    level-known a.t a.table.now a.work.now _ p.value _ p.table_after c.if-s-ne0.false
+allowance-e-requires c = level-known c.args.t c.args.table.now c.args.work.now _ (sym c.in_ok-size.ensures.value)
 
 pub slice_bounds-full_run-end : goal.slice_bounds-full_run-end
-slice_bounds-full_run-end c =
-    let a = c.args in
-    let p = c.table_for_run-s.ensures in
-    room a.t a.table.now a.work.now _ p.value _ p.table_after c.if-s-ne0.false
+slice_bounds-full_run-end c = room c.args.t c.args.table.now c.args.work.now _ (sym c.in_ok-size.ensures.value) _ c.in_ok-size.ensures.table_after
 
 pub slice_bounds-full_run-end-2 : goal.slice_bounds-full_run-end-2
-slice_bounds-full_run-end-2 c = sym (length-take-le _ _ ((let a = c.args in let p = c.table_for_run-s.ensures in room a.t a.table.now a.work.now _ p.value _ p.table_after c.if-s-ne0.false)))
+slice_bounds-full_run-end-2 c = sym (length-take-le _ _ (room c.args.t c.args.table.now c.args.work.now _ (sym c.in_ok-size.ensures.value) _ c.in_ok-size.ensures.table_after))
 
 pub full_run-requires : goal.full_run-requires
 full_run-requires c =
-    let a = c.args in
-    let p = c.table_for_run-s.ensures in
-    let k = c.if-s-ne0.false in
-    startable a.t a.table.now a.work.now _ p.value _ p.table_after k _ c.allowance-e.ensures _ _ (front a.t a.table.now a.work.now _ p.value _ p.table_after k)
-    (table-checked a.t (good a.t a.table.now a.work.now _ p.value _ p.table_after k))
+    startable c.args.t c.args.table.now c.args.work.now _ (sym c.in_ok-size.ensures.value) _ c.allowance-e.ensures _ _ (front c.args.t c.args.table.now c.args.work.now _ (sym c.in_ok-size.ensures.value) _ c.in_ok-size.ensures.table_after)
+    (table-checked c.args.t (good c.args.t c.args.table.now c.args.work.now _ (sym c.in_ok-size.ensures.value)))
 
-pub returns : goal.returns
+pub returns-clause-value : goal.returns-clause-value
 unfolding trial_answer trial_run
-returns c =
-    let a = c.args in
-    let p = c.table_for_run-s.ensures in
-    let k = c.if-s-ne0.false in
-    let f = c.full_run.ensures in record { value = told a.t a.table.now a.work.now _ p.value _ p.table_after k _ c.allowance-e.ensures _ _ (front a.t a.table.now a.work.now _ p.value _ p.table_after k) (trial_rows a.t) (table_of-rows a.t) _ f.value; table_after = p.table_after; work_after = left a.t a.table.now a.work.now _ p.value _ p.table_after k _ f.work_after }
+returns-clause-value c =
+    told c.args.t c.args.table.now c.args.work.now _ (sym c.in_ok-size.ensures.value) _ c.allowance-e.ensures _ _ (front c.args.t c.args.table.now c.args.work.now _ (sym c.in_ok-size.ensures.value) _ c.in_ok-size.ensures.table_after) (trial_rows c.args.t) (table_of-rows c.args.t) _ c.full_run.ensures.value
+
+pub returns-clause-table_after : goal.returns-clause-table_after
+returns-clause-table_after c = c.in_ok-size.ensures.table_after
+
+pub returns-clause-work_after : goal.returns-clause-work_after
+returns-clause-work_after c = left c.args.t c.args.table.now c.args.work.now _ (sym c.in_ok-size.ensures.value) _ c.full_run.ensures.work_after

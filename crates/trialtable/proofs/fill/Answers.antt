@@ -1,15 +1,10 @@
--- `trialtable::fill` meets its contract: by how the trial was laid out.
-use Rattle.trialtable.proofs.Filled.{fill-as, filled-as}
+-- `trialtable::fill` meets its contract: row 0, and then the blocks.
+use Rattle.trialtable.specs.Internal.{table_for}
+use Rattle.trialtable.proofs.Blocks.{first-held, rows_all}
 use Rattle.trialtable.proofs.fill.Goals as goal
 
-pub fill-requires : goal.fill-requires
-fill-requires c = fill-as _ _ c.in-Paired.is _ _ _ c.requires
-
-pub fill-requires-in-Unpaired : goal.fill-requires-in-Unpaired
-fill-requires-in-Unpaired c = fill-as _ _ c.in-Unpaired.is _ _ _ c.requires
-
-pub returns-in-Paired : goal.returns-in-Paired
-returns-in-Paired c = filled-as _ _ c.in-Paired.is _ _ _ _ c.fill.ensures
-
-pub returns-in-Unpaired : goal.returns-in-Unpaired
-returns-in-Unpaired c = filled-as _ _ c.in-Unpaired.is _ _ _ _ c.fill-in-Unpaired.ensures
+pub returns : goal.returns
+returns g c =
+    let a = c.args in
+    let d = g.K.Kind.design a.kind in
+    rows_all (table_for d a.offers a.figures.now) a.offers (first-held d a.offers a.figures.now _ c.requires) _ _ _ c.first_row.ensures c.blocks-2.ensures

@@ -5,10 +5,10 @@ use Rattle.words.proofs.Signed.{sub-fits, field-low, field-high}
 use Rattle.words.proofs.difference_of.Goals as goal
 
 pub overflow_sub-result : goal.overflow_sub-result
-overflow_sub-result c = sub-fits (c.args.w % 268435456) (omega (arith, c.if-v-lt134217728.false)) (omega arith)
+overflow_sub-result c = sub-fits (c.args.w % 268435456) (omega (arith, c.if-v.false)) (omega arith)
 
-pub returns-then-v-lt134217728 : goal.returns-then-v-lt134217728
-returns-then-v-lt134217728 c = field-low (c.args.w % 268435456) (omega (arith, c.if-v-lt134217728.true))
+pub returns-then-v : goal.returns-then-v
+returns-then-v c = field-low (c.args.w % 268435456) (omega (arith, c.if-v.true))
 
-pub returns-else-v-lt134217728 : goal.returns-else-v-lt134217728
-returns-else-v-lt134217728 c = field-high (c.args.w % 268435456) (omega (arith, c.if-v-lt134217728.false)) (omega arith)
+pub returns-else-v : goal.returns-else-v
+returns-else-v c = field-high (c.args.w % 268435456) (omega (arith, c.if-v.false)) (omega arith)

@@ -7,7 +7,7 @@ use Rattle.critical.proofs.bars.has_k_max.Goals as goal
 pub returns-then-has_equal : goal.returns-then-has_equal
 returns-then-has_equal c = c.equal.ensures ∙ ap (equal _) c.kmax.ensures
 
-pub returns : goal.returns
-returns c =
+pub returns-else-has_equal : goal.returns-else-has_equal
+returns-else-has_equal c =
     let q = c.requires in
-    no-k-max _ _ _ _ q.0 q.1 q.2 q.3 q.5 (sym c.has_equal.ensures ∙ c.if-has_equal.false)
+    c.if-has_equal.false ∙ no-k-max _ _ _ _ q.0 q.1 q.2 q.3 q.5 (sym c.has_equal.ensures ∙ c.if-has_equal.false)

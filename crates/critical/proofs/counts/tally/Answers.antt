@@ -1,7 +1,6 @@
 -- `tally` meets its contract. The invariant is `Tallied` (proofs/Tally.antt).
 use Rattle.critical.proofs.Tally.{tallied-start, count_fits, tallied-turn, tallied-end, tallied-rest}
 use native.Mathlib.Omega.{arith}
-use Prim.Native.Nat.{◌-◌}
 use Rattle.critical.proofs.counts.tally.Goals as goal
 
 pub loop-j-init : goal.loop-j-init

@@ -3,7 +3,6 @@ use Rattle.critical.proofs.Members.{listed_start, listed_in, listed-past, listed
 use lib.ListN.{length, length-set}
 use mathlib.Core.List.{[]}
 use native.Mathlib.Omega.{arith}
-use Prim.Native.Nat.{◌-◌}
 use mathlib.Core.Path.{refl, ap, ◌∙◌}
 use Rattle.critical.proofs.kmax.members.Goals as goal
 use Rattle.critical.proofs.kmax.members.Goals.{else-s-eq1, then-s-eq1}
@@ -18,4 +17,4 @@ loop-i-preserved c =
     elim c.if-s-eq1.branch [ then-s-eq1 w ↦ (omega arith, l.1, omega (arith, w.n-is, l.2), ap length w.at-is ∙ length-set c.loop-i.at _ _ ∙ l.3, listed_in _ _ _ _ _ _ t l.4 _ _ (omega (arith, l.1, l.2, l.3)) w.if-s-eq1.true w.at-is w.n-is) | else-s-eq1 w ↦ (omega arith, l.1, omega (arith, w.n-is, l.2), ap length w.at-is ∙ l.3, listed-past _ _ _ _ _ _ t l.4 _ _ w.if-s-eq1.false w.at-is w.n-is) ]
 
 pub returns : goal.returns
-returns c = let l = c.loop-i.invariant in (omega (arith, l.0, l.1, l.2, l.3), listed-done c.args.columns c.loop-i.s c.loop-i.i c.loop-i.n c.loop-i.at _ c.loop-i-test.false l.4)
+returns c = let l = c.loop-i.invariant in listed-done c.args.columns c.args.set c.loop-i.s c.loop-i.i c.loop-i.n c.loop-i.at c.loop-i-test.false l.0 l.2 l.1 l.3 l.4

@@ -9,6 +9,3 @@ use Rattle.critical.proofs.kmax.members.Given as goal
 
 abbrev pub invariant-loop-i : goal.invariant-loop-i
 invariant-loop-i l = (l.i ≤ l.columns) × (l.columns ≤ 32) × (l.n ≤ l.i) × (length l.at ≡ 32) × (take l.n l.at ++ members_from l.i (columns_of (l.columns - l.i) l.s) ≡ members_from 0 (columns_of l.columns l.set))
-
-abbrev pub decreases-loop-i : goal.decreases-loop-i
-decreases-loop-i l = l.columns - l.i

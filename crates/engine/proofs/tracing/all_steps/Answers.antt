@@ -2,7 +2,6 @@
 use Rattle.engine.specs.Internal.{trace_of}
 use Rattle.engine.proofs.AllSteps.{follow-start, follow-turn, follow-end, follow-out, kept-room, kept-beyond}
 use lib.Ieee.{of_bits}
-use Prim.Native.Nat.{◌-◌}
 use native.Mathlib.Omega.{arith}
 use mathlib.Core.Path.{refl}
 use Rattle.engine.proofs.tracing.all_steps.Goals as goal

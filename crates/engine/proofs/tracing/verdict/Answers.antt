@@ -1,7 +1,6 @@
 -- `verdict` meets its contract. The invariant: the verdict is what the steps from i on give.
 use Rattle.engine.proofs.Traces.{look-start, look_hit, look-on, look-end}
 use lib.Ieee.{of_bits}
-use Prim.Native.Nat.{◌-◌}
 use native.Mathlib.Omega.{arith}
 use mathlib.Core.Path.{refl}
 use Rattle.engine.proofs.tracing.verdict.Goals as goal

@@ -4,7 +4,6 @@ use mathlib.Core.Path.{◌∙◌}
 use Rattle.masks.proofs.Marks.{holding-columns}
 use Rattle.masks.proofs.Walks as walks
 use Rattle.figuring.proofs.PutBackCounts.{odd-one, walk_none, walk-skip, walk-pruned, walk-leaf, walk-in}
-use Rattle.figuring.proofs.counting.walk.Reads as walk
 use Rattle.figuring.proofs.counting.+walk.Goals as goal
 
 pub returns-then-rest-eq0 : goal.returns-then-rest-eq0

@@ -5,7 +5,7 @@ use Rattle.figuring.proofs.counting.needed.Goals as goal
 
 pub returns-then-size_of-k : goal.returns-then-size_of-k
 returns-then-size_of-k c =
-    needed-few c.requires _ _ _ (omega (arith, c.size_of.ensures, c.if-size_of-k.true)) c.count_holding.ensures c.larger.ensures
+    needed-few c.requires _ _ _ (omega (arith, c.size_of.ensures, c.if-size_of-k.true)) c.count_holding.ensures c.max.ensures
 
 pub overflow_sub-left : goal.overflow_sub-left
 overflow_sub-left c = omega (arith, passed-within c.requires)

@@ -1,15 +1,10 @@
--- `unrejected` meets its contract. The invariant: the first j places hold M, the others zero.
-use Rattle.figuring.proofs.Stored.{more-equal, all-equal}
-use Prim.Native.Nat.{◌-◌}
-use native.Mathlib.Omega.{arith}
-use mathlib.Core.Path.{refl}
+-- `unrejected` meets its contract.
+use Rattle.std.proofs.Common.{rules, ◌≡◌, ◌-◌, ◌++◌, List, ℕ, replicate, ap, ap₂, ◌∙◌, sym}
+use Rattle.std.proofs.lemmas.List.{drop-replicate, length-replicate}
 use Rattle.figuring.proofs.pass.unrejected.Goals as goal
 
-pub loop-j-init : goal.loop-j-init
-loop-j-init c = (omega arith, c.requires, refl)
-
-pub loop-j-preserved : goal.loop-j-preserved
-loop-j-preserved c = let l = c.loop-j.invariant in (omega arith, l.1, more-equal 32 _ _ _ (omega arith) l.2)
-
 pub returns : goal.returns
-returns c = let l = c.loop-j.invariant in all-equal 32 _ _ _ _ l.0 c.loop-j-test.false l.2
+returns c =
+    let a = c.args in
+    let e : c.fill.new.self ≡ replicate a.columns a.rows = search rules in
+    ap₂ (λ (x y : List ℕ). x ++ y) e (drop-replicate a.columns 32 0 ∙ ap (λ (n : ℕ). replicate (32 - n) 0) (sym (length-replicate a.columns a.rows)))

@@ -1,36 +1,41 @@
 -- `becardlarder_table_adjusted`: where there is no place for each column only the refusal is looked for; otherwise the figures are worked out and written.
+use Prim.Native.Nat.{ℕ, ◌+◌}
 use native.Mathlib.Omega.{arith}
-use Rattle.host.proofs.AdjustedTables.{adjusted-fits, adjusted-known, adjusted-short, adjusted-refused, adjusted-done}
+use mathlib.Core.Path.{ap, ◌∙◌}
+use lib.ListN.{length-take}
+use borrow.Author.Rules.{rules}
+use Rattle.host.proofs.Lent.{part}
+use Rattle.host.proofs.AdjustedTables.{adjusted-known, adjusted-never, adjusted-cramped, adjusted-refused, adjusted-done}
 use Rattle.host.proofs.adjusted.becardlarder_table_adjusted.Goals as goal
 
-pub overflow_add-result : goal.overflow_add-result
-overflow_add-result c = record { fits = omega (arith, adjusted-fits _ _ _ _ _ _ _ c.adjusted_figures-told.ensures.value) }
+pub returns-in-Ok : goal.returns-in-Ok
+returns-in-Ok c = absurd (adjusted-never _ _ _ _ _ _ c.in-Ok.ensures.value)
 
-pub returns-then-figures-columns : goal.returns-then-figures-columns
-returns-then-figures-columns c =
-    let the-clauses = (
-    adjusted-short _ _ _ _ _ c.args.work.now c.args.figures.now c.if-figures-columns.true _ c.adjusted_figures-told.ensures.value _ c.adjusted_figures-told.ensures.work_after
-    ) in
-    record { value = the-clauses.0; work_after = the-clauses.1.0; figures_after = the-clauses.1.1 }
+pub returns-in-Err : goal.returns-in-Err
+returns-in-Err c =
+    let d = adjusted-cramped _ _ _ _ _ c.args.work.now c.args.figures.now c.if-figures-columns.true c.in-Err.early c.in-Err.ensures.value _ c.in-Err.ensures.work_after in
+    record { value = ap (λ (n : ℕ). 100 + n) c.from-in-Err.ensures ∙ d.0; work_after = d.1.0; figures_after = d.1.1 }
 
-pub overflow_add-result-then-refusal-ne0 : goal.overflow_add-result-then-refusal-ne0
-overflow_add-result-then-refusal-ne0 c = record { fits = omega (arith, adjusted-fits _ _ _ _ _ _ _ c.adjusted_figures-told-2.ensures.value) }
+pub all_narrow-requires : goal.all_narrow-requires
+all_narrow-requires c = (adjusted-known _ _ _ _ _ _ _ c.in-Ok-adjusted_figures.ensures.value).1
 
-pub returns-then-refusal-ne0 : goal.returns-then-refusal-ne0
-returns-then-refusal-ne0 c =
-    let the-clauses = (
-    adjusted-refused _ _ _ _ _ c.args.work.now c.args.figures.now c.if-figures-columns.false _ c.adjusted_figures-told-2.ensures.value _ c.adjusted_figures-told-2.ensures.work_after c.if-refusal-ne0.true
-    ) in
-    record { value = the-clauses.0; work_after = the-clauses.1.0; figures_after = the-clauses.1.1 }
+pub slice_bounds-put-end : goal.slice_bounds-put-end
+slice_bounds-put-end c = (part _ c.all_narrow.result (adjusted-known _ _ _ _ _ _ _ c.in-Ok-adjusted_figures.ensures.value).0 (search rules)).0
 
-pub put_figures-requires : goal.put_figures-requires
-put_figures-requires c =
-    let k = adjusted-known _ _ _ _ _ _ _ c.adjusted_figures-told-2.ensures.value c.if-refusal-ne0.false in
-    (k.0, c.if-figures-columns.false, k.1)
+pub slice_bounds-put-end-in-Ok-adjusted_figures : goal.slice_bounds-put-end-in-Ok-adjusted_figures
+slice_bounds-put-end-in-Ok-adjusted_figures c = (part _ c.all_narrow.result (adjusted-known _ _ _ _ _ _ _ c.in-Ok-adjusted_figures.ensures.value).0 (search rules)).1
 
-pub returns : goal.returns
-returns c =
-    let the-clauses = (
-    adjusted-done _ _ _ _ _ c.args.work.now c.args.figures.now c.if-figures-columns.false _ c.adjusted_figures-told-2.ensures.value _ c.adjusted_figures-told-2.ensures.work_after c.if-refusal-ne0.false _ c.put_figures.ensures
-    ) in
-    record { value = the-clauses.0; work_after = the-clauses.1.0; figures_after = the-clauses.1.1 }
+pub put-requires : goal.put-requires
+put-requires c = simp length-take (omega (arith, c.if-figures-columns.false))
+
+pub returns-in-Ok-adjusted_figures : goal.returns-in-Ok-adjusted_figures
+returns-in-Ok-adjusted_figures c =
+    let e = c.in-Ok-adjusted_figures.ensures in
+    let d = adjusted-done _ _ _ _ _ c.args.work.now c.args.figures.now _ e.value _ e.work_after c.if-figures-columns.false _ c.all_narrow.ensures _ c.put.ensures in
+    record { value = d.0; work_after = d.1.0; figures_after = d.1.1 }
+
+pub returns-in-Err-adjusted_figures : goal.returns-in-Err-adjusted_figures
+returns-in-Err-adjusted_figures c =
+    let e = c.in-Err-adjusted_figures.ensures in
+    let d = adjusted-refused _ _ _ _ _ c.args.work.now c.args.figures.now c.in-Err-adjusted_figures.refusal e.value _ e.work_after in
+    record { value = ap (λ (n : ℕ). 100 + n) c.from-in-Err-adjusted_figures.ensures ∙ d.0; work_after = d.1.0; figures_after = d.1.1 }

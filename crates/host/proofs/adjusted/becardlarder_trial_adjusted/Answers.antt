@@ -1,38 +1,39 @@
 -- `becardlarder_trial_adjusted`: the figures of the file are worked out, the buffer is measured, the figures and M are written.
+use Prim.Native.Nat.{ℕ, ◌+◌}
 use native.Mathlib.Omega.{arith}
-use Rattle.host.proofs.AdjustedFiles.{figured-fits, figured-known, figured-refused, figured-short, figured-done}
+use mathlib.Core.Path.{ap, ◌∙◌}
+use lib.ListN.{length-take}
+use borrow.Author.Rules.{rules}
+use Rattle.host.proofs.Lent.{part}
+use Rattle.host.proofs.AdjustedFiles.{figured-known, figured-refused, figured-short, figured-done}
 use Rattle.host.proofs.adjusted.becardlarder_trial_adjusted.Goals as goal
-
-pub overflow_add-result : goal.overflow_add-result
-overflow_add-result c = record { fits = omega (arith, figured-fits _ _ c.file_figures-answer.ensures) }
-
-pub returns-then-refusal-ne0 : goal.returns-then-refusal-ne0
-returns-then-refusal-ne0 c =
-    let the-clauses = (
-    figured-refused _ _ c.file_figures-answer.ensures _ _ c.if-refusal-ne0.true
-    ) in
-    record { value = the-clauses.0; figures_after = the-clauses.1.0; rows_after = the-clauses.1.1 }
 
 pub returns-then-figures-offers : goal.returns-then-figures-offers
 returns-then-figures-offers c =
-    let the-clauses = (
-    figured-short _ _ c.file_figures-answer.ensures _ _ c.if-refusal-ne0.false c.if-figures-offers.true
-    ) in
-    record { value = the-clauses.0; figures_after = the-clauses.1.0; rows_after = the-clauses.1.1 }
+    let d = figured-short c.args.file.now c.args.figures.now c.args.rows.now _ c.in-Ok.ensures c.if-figures-offers.true in
+    record { value = ap (λ (n : ℕ). 100 + n) c.from.ensures ∙ d.0; figures_after = d.1.0; rows_after = d.1.1 }
 
-pub put_figures-requires : goal.put_figures-requires
-put_figures-requires c =
-    let k = figured-known _ _ c.file_figures-answer.ensures c.if-refusal-ne0.false in
-    (omega (arith, k.0), c.if-figures-offers.false, k.1)
+pub all_narrow-requires : goal.all_narrow-requires
+all_narrow-requires c = (figured-known c.args.file.now _ c.in-Ok.ensures).1
+
+pub slice_bounds-put-end : goal.slice_bounds-put-end
+slice_bounds-put-end c = (part _ c.all_narrow.result (figured-known c.args.file.now _ c.in-Ok.ensures).0 (search rules)).0
+
+pub slice_bounds-put-end-in-Ok : goal.slice_bounds-put-end-in-Ok
+slice_bounds-put-end-in-Ok c = (part _ c.all_narrow.result (figured-known c.args.file.now _ c.in-Ok.ensures).0 (search rules)).1
+
+pub put-requires : goal.put-requires
+put-requires c = simp length-take (omega (arith, c.if-figures-offers.false))
 
 pub overflow_cast-rows : goal.overflow_cast-rows
-overflow_cast-rows c =
-    let k = figured-known _ _ c.file_figures-answer.ensures c.if-refusal-ne0.false in
-    record { fits = omega arith }
+overflow_cast-rows c = let k = figured-known c.args.file.now _ c.in-Ok.ensures in record { fits = omega (arith, k.0, k.2) }
 
-pub returns : goal.returns
-returns c =
-    let the-clauses = (
-    figured-done _ _ c.file_figures-answer.ensures _ _ c.if-refusal-ne0.false c.if-figures-offers.false _ c.put_figures.ensures
-    ) in
-    record { value = the-clauses.0; figures_after = the-clauses.1.0; rows_after = the-clauses.1.1 }
+pub returns-else-figures-offers : goal.returns-else-figures-offers
+returns-else-figures-offers c =
+    let d = figured-done c.args.file.now c.args.figures.now c.args.rows.now _ c.in-Ok.ensures c.if-figures-offers.false _ c.all_narrow.ensures _ c.put.ensures in
+    record { value = d.0; figures_after = d.1.0; rows_after = d.1.1 }
+
+pub returns-in-Err : goal.returns-in-Err
+returns-in-Err c =
+    let d = figured-refused c.args.file.now c.args.figures.now c.args.rows.now c.in-Err.refusal c.in-Err.ensures in
+    record { value = ap (λ (n : ℕ). 100 + n) c.from-in-Err.ensures ∙ d.0; figures_after = d.1.0; rows_after = d.1.1 }

@@ -9,13 +9,13 @@ use Rattle.host.proofs.balanced.becardlarder_trial_balanced_verdicts.Goals as go
 
 pub tell-requires : goal.tell-requires
 unfolding file_balanced_run trial_balanced_run
-tell-requires c = file-tellable (λ t. balanced_rows (trial_rows t)) _ _ c.file_balanced_run-answer.ensures
+tell-requires c = file-tellable (λ t. balanced_rows (trial_rows t)) _ _ c.file_balanced_run.ensures
 
 pub returns : goal.returns
 unfolding file_balanced_run trial_balanced_run trial_balanced_verdicts_answer trial_balanced_verdicts_buffer
 returns c =
     let the-clauses = (
     let a = c.args in
-    file-told (λ t. balanced_rows (trial_rows t)) a.file.now _ c.file_balanced_run-answer.ensures a.verdicts.now _ _ c.tell.ensures
+    file-told (λ t. balanced_rows (trial_rows t)) a.file.now _ c.file_balanced_run.ensures a.verdicts.now _ _ c.tell.ensures
     ) in
     record { value = the-clauses.0; verdicts_after = the-clauses.1 }

@@ -1,17 +1,18 @@
--- `count_holding` meets its contract. The invariant: what is counted and what is still to be counted make the whole.
-use Rattle.order.proofs.Slices.{counted-in, counted-past, counted-all}
+-- `count_holding` meets its contract: a sum of ones is a count.
+use Rattle.std.proofs.Common.{rules, ◌≡◌, ℕ, ◌+◌, Bool, List, [], ◌∷◌, fold, arith}
+use Rattle.std.specs.List.{sum_by}
+use Rattle.order.specs.Counting.{bit, count}
 use Rattle.masks.specs.Marks.{holds, holding}
-use native.Mathlib.Omega.{arith}
-use Prim.Native.Nat.{◌-◌}
-use mathlib.Core.Path.{sym, ◌∙◌}
 use Rattle.masks.proofs.rows.count_holding.Goals as goal
-use Rattle.masks.proofs.rows.count_holding.Goals.{else-holds, then-holds}
 
-pub loop-i-preserved : goal.loop-i-preserved
-loop-i-preserved c =
-    let l = c.loop-i.invariant in
-    elim c.if-holds.branch [ then-holds w ↦ (omega arith, counted-in _ _ _ 0 _ _ _ c.loop-i-test.true (sym c.holds.ensures ∙ w.if-holds.true) w.n-is l.1, omega arith, l.3, l.4, l.5) | else-holds w ↦ (omega arith, counted-past _ _ _ 0 _ _ _ c.loop-i-test.true (sym c.holds.ensures ∙ w.if-holds.false) w.n-is l.1, omega arith, l.3, l.4, l.5) ]
+counted : {A : Type 0} (p : A → Bool) (xs : List A) (a : ℕ) → fold (λ n x. n + bit (p x)) a xs ≡ a + count p xs
+unfolding count
+counted p [] a = omega arith
+counted p (x ∷ xs) a = omega (arith, counted p xs (a + bit (p x)))
 
 pub returns : goal.returns
 unfolding holding
-returns c = counted-all _ _ _ 0 _ _ c.loop-i-test.false c.loop-i.invariant.1
+returns c =
+    let a = c.args in
+    let e : c.sum-n.result ≡ sum_by (λ m. bit (holds a.k a.set m)) a.marks.now = search rules in
+    omega (arith, e, counted (holds a.k a.set) a.marks.now 0)

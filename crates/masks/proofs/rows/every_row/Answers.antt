@@ -3,7 +3,6 @@ use Rattle.order.specs.Lists.{tabulate}
 use Rattle.masks.proofs.Marking.{tabulated-more, tabulated-all}
 use lib.ListN.{length-set}
 use native.Mathlib.Omega.{arith}
-use Prim.Native.Nat.{◌-◌}
 use mathlib.Core.Path.{refl}
 use Rattle.masks.proofs.rows.every_row.Goals as goal
 

@@ -7,7 +7,7 @@ pub mark-requires : goal.mark-requires
 mark-requires c =
     let e = c.every_row in
     let q = c.requires in
-    (q.0, omega (arith, e.auto.kept, q.1), q.2, all-inside _ e.new.kept e.ensures)
+    (omega (arith, e.auto.kept, q.0), q.1, all-inside _ e.new.kept e.ensures)
 
 pub returns : goal.returns
 returns c =

@@ -1,6 +1,5 @@
 -- `above` meets its contract. The invariant: what is marked and what is still to be marked make the whole.
 use Rattle.masks.proofs.MaskScan.{above-start, above_in, above-past, above-done, above-fits, above-room, above-keep}
-use Prim.Native.Nat.{◌-◌}
 use native.Mathlib.Omega.{arith}
 use mathlib.Core.Path.{sym, ◌∙◌}
 use Rattle.masks.proofs.sets.above.Goals as goal

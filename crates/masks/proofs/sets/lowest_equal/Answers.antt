@@ -1,6 +1,5 @@
 -- `lowest_equal` meets its contract. The invariant: the column that is looked for is the one from `i` on.
 use Rattle.masks.proofs.MaskScan.{lowest_start, lowest-hit, lowest-on, lowest-out}
-use Prim.Native.Nat.{◌-◌}
 use native.Mathlib.Omega.{arith}
 use mathlib.Core.Path.{sym, ◌∙◌}
 use Rattle.masks.proofs.sets.lowest_equal.Goals as goal
@@ -15,4 +14,4 @@ pub loop-i-preserved : goal.loop-i-preserved
 loop-i-preserved c = (omega arith, lowest-on _ _ _ _ c.loop-i-test.true _ (sym c.lowest_is.ensures ∙ c.if-lowest_is.false) c.loop-i.invariant.1)
 
 pub returns : goal.returns
-returns c = lowest-out _ _ _ _ _ c.loop-i-test.false c.loop-i.invariant.1
+returns c = let l = c.loop-i.invariant in lowest-out _ _ _ _ _ l.0 c.loop-i-test.false l.1

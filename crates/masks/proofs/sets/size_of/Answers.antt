@@ -1,17 +1,10 @@
--- `size_of` meets its contract. The invariant: what is counted and what is still to be counted make the whole.
-use Rattle.masks.proofs.MaskScan.{size-start, size_in, size-past, size-done}
-use Prim.Native.Nat.{◌-◌}
+-- `size_of` meets its contract: the columns are the bits that are 1.
+use Rattle.masks.proofs.SetSizes.{size-wide, size-part}
 use native.Mathlib.Omega.{arith}
 use Rattle.masks.proofs.sets.size_of.Goals as goal
-use Rattle.masks.proofs.sets.size_of.Goals.{else-s-eq1, then-s-eq1}
 
-pub loop-i-init : goal.loop-i-init
-loop-i-init c = (omega arith, omega arith, size-start _ _)
-
-pub loop-i-preserved : goal.loop-i-preserved
-loop-i-preserved c =
-    let l = c.loop-i.invariant in
-    elim c.if-s-eq1.branch [ then-s-eq1 w ↦ (omega arith, omega arith, size_in _ _ _ c.loop-i-test.true _ _ _ w.if-s-eq1.true w.n-is l.2) | else-s-eq1 w ↦ (omega arith, omega arith, size-past _ _ _ c.loop-i-test.true _ _ _ w.if-s-eq1.false w.n-is l.2) ]
+pub returns-then-cols-gt32 : goal.returns-then-cols-gt32
+returns-then-cols-gt32 c = size-wide c.args.cols c.args.set (omega (arith, c.if-cols-gt32.true)) c.ranges.set.fits
 
 pub returns : goal.returns
-returns c = size-done _ _ _ _ _ c.loop-i-test.false c.loop-i.invariant.2
+returns c = size-part c.args.cols c.args.set _ c.if-cols-gt32.false c.full_mask.ensures

@@ -1,13 +1,9 @@
--- `has_equal` meets its contract. The invariant: what is counted and what is still to be counted make the whole.
+-- The invariant: as many are counted as there are among those that were looked at.
 use mathlib.Core.Path.{◌≡◌}
-use Prim.Native.Nat.{◌≤◌, ◌+◌, ◌-◌}
-use lib.ListN.{length, drop}
+use lib.ListN.{take}
 use Rattle.order.specs.Order.{equal}
 use Rattle.order.specs.Counting.{count}
 use Rattle.order.proofs.equals.has_equal.Given as goal
 
-abbrev pub invariant-loop-i : goal.invariant-loop-i
-invariant-loop-i l = (l.i ≤ length l.xs) × (l.n + count (λ x. equal l.v x) (drop l.i l.xs) ≡ count (λ x. equal l.v x) l.xs) × (l.n ≤ l.i)
-
-abbrev pub decreases-loop-i : goal.decreases-loop-i
-decreases-loop-i l = length l.xs - l.i
+abbrev pub invariant-loop-x : goal.invariant-loop-x
+invariant-loop-x l = l.n ≡ count (λ x. equal l.v x) (take l.x-index l.xs)

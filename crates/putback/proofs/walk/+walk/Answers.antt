@@ -7,7 +7,6 @@ use Rattle.putback.proofs.Walking.{leaf-value, none-value, past_value, in-value,
 use Rattle.putback.proofs.Branches.{next_fits, chosen-fits, unite-fits}
 use Rattle.order.proofs.Booleans.{true-T}
 use Rattle.putback.proofs.Pruning.{marks-few, pruned}
-use Rattle.putback.proofs.walk.walk.Reads as walk
 use Rattle.putback.proofs.walk.+walk.Goals as goal
 
 pub leaf-requires : goal.leaf-requires

@@ -1,45 +1,27 @@
 -- `put_ranks`. The invariant: the rows from place i of the order on have their ranks.
 use native.Mathlib.Omega.{arith}
-use mathlib.Core.Path.{refl}
-use lib.ListN.{length-set}
-use Rattle.ranking.proofs.Walking.{walk_start, row-there, row-few, entry-small, entry-there, walk-rank, walk-down, walk_end}
+use Rattle.ranking.proofs.Walking.{walk_start, row-there, entry-there, walk-rank, walk-down, walk_end}
 use Rattle.ranking.proofs.column.put_ranks.Goals as goal
 
 pub loop-i-init : goal.loop-i-init
-loop-i-init c = let p = c.requires in (record { ordered = p; walk = walk_start _ _ _ _ _ p 0 }, omega arith, refl)
-
-pub overflow_cast-h : goal.overflow_cast-h
-overflow_cast-h c = let l = c.loop-i.invariant in record { fits = omega (arith, row-few l.0 (omega (arith, c.loop-i-test.true)) l.1) }
-
-pub offset_bounds-places-h : goal.offset_bounds-places-h
-offset_bounds-places-h c = let l = c.loop-i.invariant in record { fits = omega (arith, row-few l.0 (omega (arith, c.loop-i-test.true)) l.1) }
+loop-i-init c = record { ordered = c.requires; walk = walk_start _ _ _ _ _ c.requires 0 }
 
 pub bounds-places-h : goal.bounds-places-h
-bounds-places-h c = let l = c.loop-i.invariant in row-there l.0 (omega (arith, c.loop-i-test.true)) l.1
+bounds-places-h c = rw c.from-h.ensures (row-there c.loop-i.invariant (omega (arith, c.loop-i-test.true)) c.loop-i.auto.i)
 
 pub whole-requires : goal.whole-requires
 whole-requires c =
-    let l = c.loop-i.invariant in
-    let o = l.0.ordered in
-    omega (arith, o.most, walk-rank _ _ _ _ _ o l.0.walk (omega (arith, c.loop-i-test.true)) l.1 _ c.rank_of-rank.ensures)
-
-pub overflow_mul-table : goal.overflow_mul-table
-overflow_mul-table c = let l = c.loop-i.invariant in record { fits = omega (arith, entry-small l.0 (omega (arith, c.loop-i-test.true)) l.1) }
-
-pub overflow_add-table : goal.overflow_add-table
-overflow_add-table c = let l = c.loop-i.invariant in record { fits = omega (arith, entry-small l.0 (omega (arith, c.loop-i-test.true)) l.1) }
-
-pub offset_bounds-table-h : goal.offset_bounds-table-h
-offset_bounds-table-h c = let l = c.loop-i.invariant in record { fits = omega (arith, entry-small l.0 (omega (arith, c.loop-i-test.true)) l.1) }
+    let o = c.loop-i.invariant.ordered in
+    omega (arith, o.most, walk-rank _ _ _ _ _ o c.loop-i.invariant.walk (omega (arith, c.loop-i-test.true)) c.loop-i.auto.i _ (rw c.from-h.ensures at c.rank_of-rank.ensures))
 
 pub bounds-table-h : goal.bounds-table-h
-bounds-table-h c = let l = c.loop-i.invariant in entry-there l.0 (omega (arith, c.loop-i-test.true)) l.1
+bounds-table-h c = rw c.from-h.ensures (entry-there c.loop-i.invariant (omega (arith, c.loop-i-test.true)) c.loop-i.auto.i)
 
 pub loop-i-preserved : goal.loop-i-preserved
 loop-i-preserved c =
-    let l = c.loop-i.invariant in
-    let o = l.0.ordered in
-    (record { ordered = o; walk = walk-down _ _ _ _ _ o l.0.walk (omega (arith, c.loop-i-test.true)) l.1 _ c.rank_of-rank.ensures _ c.whole.ensures }, omega (arith, l.1), simp length-set l.2)
+    let o = c.loop-i.invariant.ordered in
+    let r = rw c.from-h.ensures at c.rank_of-rank.ensures in
+    rw c.from-h.ensures (record { ordered = o; walk = walk-down _ _ _ _ _ o c.loop-i.invariant.walk (omega (arith, c.loop-i-test.true)) c.loop-i.auto.i _ r _ c.whole.ensures })
 
 pub returns : goal.returns
-returns c = let l = c.loop-i.invariant in walk_end _ _ _ _ _ l.0.ordered l.0.walk (omega (arith, c.loop-i-test.false))
+returns c = walk_end _ _ _ _ _ c.loop-i.invariant.ordered c.loop-i.invariant.walk c.loop-i-test.false

@@ -1,21 +1,13 @@
--- `offers`: the invariant is the text of the lines so far, each of at most `offer_line_most` bytes.
-use Rattle.text.specs.Text.{lines_to}
-use Rattle.text.proofs.Writes.{wrote_none, then, wrote_as}
-use Rattle.text.proofs.Lines.{lines_more, lines-all, ends}
-use Prim.Native.Nat.{◌-◌}
-use mathlib.Core.Path.{refl}
-use native.Mathlib.Omega.{arith}
+-- `offers`: one line more with each offer.
+use Rattle.text.proofs.Lines.{lines_none, lines_more, lines_room}
+use Rattle.rendering.specs.Reports.{offer_line_at}
 use Rattle.rendering.proofs.lines.offers.Goals as goal
 
 pub loop-i-init : goal.loop-i-init
-unfolding lines_to
-loop-i-init c = let q = c.requires in (omega arith, q.2, q.0, q.1, refl, q.3, omega arith, wrote_none _ _)
+loop-i-init c = lines_none _ _
 
-pub offer-next-requires : goal.offer-next-requires
-offer-next-requires c = let l = c.loop-i.invariant in (omega (arith, l.1, l.2, l.3, l.4, l.6, c.loop-i-test.true), l.5 _ c.loop-i-test.true)
+pub offer-requires : goal.offer-requires
+offer-requires c = record { room = lines_room (offer_line_at c.args.labels c.args.run) _ c.loop-i.i _ c.loop-i.invariant _ _ c.loop-i-test.true c.requires.room }
 
 pub loop-i-preserved : goal.loop-i-preserved
-loop-i-preserved c = let l = c.loop-i.invariant in (omega (arith, c.loop-i-test.true), l.1, l.2, l.3, omega (arith, c.offer-next.auto.out, l.4), l.5, omega (arith, l.6, c.offer-next.ensures.1), wrote_as _ (lines_more _ _) (then l.7 c.offer-next.ensures.0))
-
-pub returns : goal.returns
-returns c = let l = c.loop-i.invariant in let e = ends _ _ _ l.0 c.loop-i-test.false refl in (wrote_as _ (lines-all _ _ _ e) l.7, omega (arith, l.1, l.6, e))
+loop-i-preserved c = lines_more (offer_line_at c.args.labels c.args.run) _ c.loop-i.i _ c.loop-i.invariant _ c.offer.ensures

@@ -1,15 +1,10 @@
--- `count_below` meets its contract. The invariant: what is counted and what is still to be counted make the whole.
-use Rattle.order.proofs.Slices.{counted-in, counted-past, counted-all}
-use lib.Ieee.{nan}
+-- `count_below` meets its contract.
 use native.Mathlib.Omega.{arith}
-use Prim.Native.Nat.{◌-◌}
+use lib.Ieee.{nan}
+use Rattle.std.proofs.lemmas.Grind.{common_steps}
+use Rattle.order.specs.Order.{smaller}
+use Rattle.order.proofs.Slices.{count-next}
 use Rattle.select.proofs.scans.count_below.Goals as goal
-use Rattle.select.proofs.scans.count_below.Goals.{else-xs-i, then-xs-i}
 
-pub loop-i-preserved : goal.loop-i-preserved
-loop-i-preserved c =
-    let l = c.loop-i.invariant in
-    elim c.if-xs-i.branch [ then-xs-i k ↦ (omega arith, counted-in _ _ _ nan _ _ _ c.loop-i-test.true k.if-xs-i.true k.n-is l.1, omega arith) | else-xs-i k ↦ (omega arith, counted-past _ _ _ nan _ _ _ c.loop-i-test.true k.if-xs-i.false k.n-is l.1, omega arith) ]
-
-pub returns : goal.returns
-returns c = counted-all _ _ _ nan _ _ c.loop-i-test.false c.loop-i.invariant.1
+pub loop-x-preserved : goal.loop-x-preserved
+loop-x-preserved c = let step = count-next (λ x. smaller x c.args.t) c.args.xs.now c.loop-x.x-index nan c.loop-x-test.true in grind (arith, common_steps)

@@ -1,13 +1,9 @@
--- `count_below` meets its contract. The invariant: what is counted and what is still to be counted make the whole.
+-- The invariant: as many are counted as there are among those that were looked at.
 use Rattle.order.specs.Order.{smaller}
 use Rattle.order.specs.Counting.{count}
-use lib.ListN.{length, drop}
-use Prim.Native.Nat.{◌≤◌, ◌+◌, ◌-◌}
+use lib.ListN.{take}
 use mathlib.Core.Path.{◌≡◌}
 use Rattle.select.proofs.scans.count_below.Given as goal
 
-abbrev pub invariant-loop-i : goal.invariant-loop-i
-invariant-loop-i l = (l.i ≤ length l.xs) × (l.n + count (λ x. smaller x l.t) (drop l.i l.xs) ≡ count (λ x. smaller x l.t) l.xs) × (l.n ≤ l.i)
-
-abbrev pub decreases-loop-i : goal.decreases-loop-i
-decreases-loop-i l = length l.xs - l.i
+abbrev pub invariant-loop-x : goal.invariant-loop-x
+invariant-loop-x l = l.n ≡ count (λ x. smaller x l.t) (take l.x-index l.xs)

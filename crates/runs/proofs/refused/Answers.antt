@@ -1,8 +1,0 @@
--- `refused` meets its contract.
-use lib.Ieee.{of_bits}
-use borrow.Author.Rules.{rules}
-use Rattle.runs.proofs.refused.Goals as goal
-
-pub returns : goal.returns
-unfolding of_bits
-returns c = search rules

@@ -1,0 +1,6 @@
+-- `write_some`: a write that fails appends nothing.
+use Rattle.std.specs.Io.KnownBytes.{Keeps}
+use Rattle.streams.proofs.write_some.Given as goal
+
+abbrev pub invariant-loop : goal.invariant-loop
+invariant-loop g l = Keeps (g.W.Write.contents l.initial.writer) (g.W.Write.contents l.writer)
