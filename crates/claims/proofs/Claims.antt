@@ -1,7 +1,8 @@
 -- The promises of the whole, on one page: total, exact and controlled, then what was asked for later; each theorem from the parts in a line or two.
 -- A contract says that a public function answers what a definition gives, for every input; the theorems are about those definitions.
--- Every call is `answer checks accepted refused`, and every lent buffer `afterwards checks new old` (refusals/specs/Answers.antt): Calls.antt
--- beside this page lists them, with the stated orders. docs/CLAIMS.md maps every sentence that was asked for to what keeps it.
+-- Every call of the library is `outcome checks accepted`, every call that tells a number or a text `answer checks accepted refused`, and every
+-- lent buffer `afterwards checks new old` (refusals/specs/Answers.antt): Calls.antt beside this page lists them, with the stated orders.
+-- docs/CLAIMS.md maps every sentence that was asked for to what keeps it.
 use Prim.Native.Nat.{ℕ, suc, ◌+◌, ◌*◌, ◌-◌, ◌/◌, ◌%◌, ◌^◌, ◌≤◌, ◌<◌}
 use mathlib.Core.Path.{◌≡◌, refl, sym, ap, ◌∙◌}
 use mathlib.Core.Bool.{Bool, true, false, not, ◌&&◌, ◌||◌}
@@ -125,6 +126,7 @@ use Rattle.rendering.proofs.Inputs as inputs
 use Rattle.rendering.proofs.PrintableFiles as printing
 use Rattle.streams.proofs.Programs as programs
 use Rattle.claims.proofs.Files as files
+use Rattle.claims.proofs.Outcomes.{Concluded, concluded}
 use Rattle.claims.proofs.BalancedFigures.{figures-accepted}
 
 -- ==== 1. Total ====
@@ -132,6 +134,10 @@ use Rattle.claims.proofs.BalancedFigures.{figures-accepted}
 -- each refusal number comes exactly when its condition is the first to hold in the stated order; a call is accepted exactly when none holds
 pub every_call : {A : Type 0} (cs : Checks) (done : A) (refusing : ℕ → A) → Answered cs done refusing
 every_call = answered
+
+-- the same of a call that answers a Result: `Err` of the refusal whose condition is the first to hold, and `Ok` exactly where none holds
+pub every_outcome : {A : Type 0} (cs : Checks) (done : A) → Concluded cs done
+every_outcome = concluded
 
 -- a refused call changes no lent buffer
 pub refused-unchanged : {A : Type 0} (cs : Checks) (new old : A) (n : ℕ) → First cs n → afterwards cs new old ≡ old
