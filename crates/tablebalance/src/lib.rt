@@ -4,13 +4,24 @@
 
 mod refusal; // what is turned away
 
-ghost use Rattle.std.specs.Prelude.{◌≡◌, length};
+ghost use Rattle.std.specs.Prelude.{◌≡◌, ◌≤◌, length};
 ghost use Rattle.refusals.specs.Answers.{outcome};
+ghost use Rattle.refusals.specs.Buffers.{written};
 ghost use Rattle.tablebalance.specs.Answers.{balance_checks, balance_buffer, balanced_answer, balanced_out, balanced_work};
 
 use limits::TABLE_ROWS_MOST;
 use refusals::Refusal;
 use runs::FullRun;
+
+// A table into the first places of a buffer. By place: `copy_from_slice` of so many values would call `memmove`, for which the library asks nowhere else.
+fn copy(table: &[f64], out: &mut [f64])
+    requires { length table.now ≤ length out.old }
+    ensures { out.new ≡ written table.now out.old }
+{
+    for i in 0..table.len() {
+        out[i] = table[i];
+    }
+}
 
 // The balanced table of a table, into the first places of a lent buffer. Where the call is refused the buffer is unchanged.
 #[tactic(auto, unfolding(crate::specs::Answers::balance_checks, crate::specs::Answers::balance_buffer, refusals::specs::Answers::answer))]
@@ -28,7 +39,7 @@ pub fn balanced_table(
     let mut order = [0u16; TABLE_ROWS_MOST];
     let mut spare = [0u16; TABLE_ROWS_MOST];
     let total = table.len();
-    out[..total].copy_from_slice(table);
+    copy(table, out);
     ranking::balance(
         &mut out[..total],
         rows,
