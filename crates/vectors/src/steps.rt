@@ -4,11 +4,10 @@ use super::{answers, bits, input, tables};
 use refusals::Refusal;
 use runs::Record;
 use stepdown::Run;
-use view::View;
 
 fn begin(rt: HostRuntime, r: Run, cells: &[f64]) -> Result<Run, Refusal> {
     if input::word(rt) != 0 {
-        return tables::view_of(r, cells).begin(r.k, r.a, r.b, r.observed);
+        return view::begin_at(cells, r.rows, r.columns, r.k, r.a, r.b, r.observed);
     }
     Run::begin(r.rows, r.columns, r.k, r.a, r.b, r.observed)
 }
@@ -24,12 +23,7 @@ pub(crate) fn answer_begin(rt: HostRuntime, cells: &[f64]) {
 // A step goes by the run's sizes and not by the view's, which is one row here.
 fn step(viewed: bool, r: Run, cells: &[f64], work: &mut [f64]) -> Result<(Run, Record), Refusal> {
     if viewed {
-        let table = View {
-            values: cells,
-            rows: 1,
-            columns: cells.len(),
-        };
-        return table.step(r, work);
+        return view::step_at(cells, 1, cells.len(), r, work);
     }
     r.step(cells, work)
 }

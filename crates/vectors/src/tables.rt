@@ -4,7 +4,6 @@ use super::{answers, bits, input};
 use refusals::Refusal;
 use runs::FullRun;
 use stepdown::Run;
-use view::View;
 
 // The value that stands a period before place i, or 0 where none does.
 fn earlier(cells: &[f64], i: usize, period: usize) -> f64 {
@@ -42,18 +41,9 @@ pub(crate) fn run(rt: HostRuntime) -> Run {
     }
 }
 
-// The cells as a table of a run's sizes.
-pub(crate) fn view_of<'a>(r: Run, cells: &'a [f64]) -> View<'a> {
-    View {
-        values: cells,
-        rows: r.rows,
-        columns: r.columns,
-    }
-}
-
 fn full_run(rt: HostRuntime, r: Run, cells: &[f64], work: &mut [f64]) -> Result<FullRun, Refusal> {
     if input::word(rt) != 0 {
-        return view_of(r, cells).full_run(work, r.k, r.a, r.b, r.observed);
+        return view::full_run_at(cells, work, r.rows, r.columns, r.k, r.a, r.b, r.observed);
     }
     stepdown::full_run(cells, work, r.rows, r.columns, r.k, r.a, r.b, r.observed)
 }
@@ -84,12 +74,11 @@ pub(crate) fn answer_balanced(rt: HostRuntime, cells: &[f64], work: &mut [f64]) 
 
 // The value at a place of a view, by rows, columns, row and column: 1 and the value, or 0.
 pub(crate) fn answer_look(rt: HostRuntime, cells: &[f64]) {
-    let table = View {
-        values: cells,
-        rows: input::word(rt),
-        columns: input::word(rt),
-    };
-    match table.look(input::word(rt), input::word(rt)) {
+    let rows = input::word(rt);
+    let columns = input::word(rt);
+    let row = input::word(rt);
+    let column = input::word(rt);
+    match view::look_at(cells, rows, columns, row, column) {
         Some(x) => Pen::start(rt, b"look", 2, 1).put(bits::of(x)).end(),
         None => Pen::start(rt, b"look", 1, 0).end(),
     }

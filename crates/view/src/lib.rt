@@ -1,5 +1,5 @@
 // A table looked at through a view of the lent values. Its methods are few and thin: each puts the same question with the slice and
-// the numbers, to a function whose contract says the same of them.
+// the numbers, to a function whose contract says the same of them. The functions `.._at` make the view of plain parameters.
 #![tactic(auto)]
 
 ghost use Rattle.std.specs.Prelude.{◌≡◌, length};
@@ -87,4 +87,83 @@ impl<'a> View<'a> {
     {
         entry_at(self.values, self.rows, self.columns, row, column)
     }
+}
+
+// The full run of lent values, through a view of them. Its parameters are plain, so a caller is proved as any other function is.
+pub fn full_run_at(
+    values: &[f64],
+    work: &mut [f64],
+    rows: usize,
+    columns: usize,
+    k: usize,
+    a: usize,
+    b: usize,
+    observed: usize,
+) -> Result<FullRun, Refusal>
+    ensures value { result ≡ full_answer values.now rows columns k a b observed (length work.old) }
+    ensures work_after { work.new ≡ full_work values.now rows columns k a b observed work.old }
+{
+    View {
+        values,
+        rows,
+        columns,
+    }
+    .full_run(work, k, a, b, observed)
+}
+
+// A run before step 1, through a view of lent values.
+pub fn begin_at(
+    values: &[f64],
+    rows: usize,
+    columns: usize,
+    k: usize,
+    a: usize,
+    b: usize,
+    observed: usize,
+) -> Result<Run, Refusal>
+    ensures { result ≡ begin_answer rows columns k a b observed }
+{
+    View {
+        values,
+        rows,
+        columns,
+    }
+    .begin(k, a, b, observed)
+}
+
+// The next step of a run, through a view of lent values.
+pub fn step_at(
+    values: &[f64],
+    rows: usize,
+    columns: usize,
+    run: Run,
+    work: &mut [f64],
+) -> Result<(Run, Record), Refusal>
+    ensures value { result ≡ step_answer values.now run (length work.old) }
+    ensures work_after { work.new ≡ step_work values.now run work.old }
+{
+    View {
+        values,
+        rows,
+        columns,
+    }
+    .step(run, work)
+}
+
+// The value at a place, through a view of lent values.
+pub fn look_at(
+    values: &[f64],
+    rows: usize,
+    columns: usize,
+    row: usize,
+    column: usize,
+) -> Option<f64>
+    ensures { result ≡ entry_of (values.now) rows columns row column }
+{
+    View {
+        values,
+        rows,
+        columns,
+    }
+    .look(row, column)
 }
