@@ -6,6 +6,7 @@ use Rattle.std.proofs.lemmas.Slice.{take-put_mid_below}
 use Rattle.std.specs.Io.{ReadsAtMost}
 use Rattle.std.specs.Io.KnownBytes.{Consumes, ReadConsumes}
 use Rattle.std.proofs.KnownBytes.{Consumes-trans}
+use Rattle.std.specs.declared.io.Error.{Error}
 use Rattle.std.specs.declared.option.Option.{Option}
 use borrow.Rule.Slice.PartMut.{put_mid, post_of}
 use lib.Seq.{take-add, take-append-le}
@@ -20,7 +21,7 @@ take-put_mid_more a k n xs ys within fits =
     sym (take-add a n (put_mid a k xs ys) ∙ ap (λ l. l ++ take n (drop a (put_mid a k xs ys))) below ∙ ap (λ l. take a xs ++ l) part)
 
 -- after a read of which that many bytes are told, these are what the reader has given
-consumed : {E : Type 0} (got : Result ℕ E) (at rest now : ℕ) → Told got at rest (Ok now)
+consumed : (got : Result ℕ Error) (at rest now : ℕ) → Told got at rest (Ok now)
     → (first before after : Option (List ℕ)) (xs ys : List ℕ) → at ≤ length xs → length ys ≡ rest → ReadsAtMost got ys → ReadConsumes before after got ys
     → Consumes first before (take at xs) → Consumes first after (take now (put_mid at rest xs ys))
 consumed (Ok n) at rest now t first before after xs ys within room bound bytes sofar =
