@@ -1,5 +1,5 @@
 -- Every call in the one form of an answer, and the stated orders; what accepted calls hand out beyond the page.
--- With `every_call` and `refused-unchanged` of Claims.antt each line below says of its call which number comes when, and what the buffers hold.
+-- With `every_call`, `every_outcome` and `refused-unchanged` of Claims.antt each line below says of its call which number comes when, and what the buffers hold.
 --   ..-order         the conditions of a call, in their order
 --   ..-told          the paper's number and values for each case of an answer
 --   ..-number        the number that an answer holds is that of the first condition that holds

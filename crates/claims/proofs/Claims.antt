@@ -1,7 +1,8 @@
 -- The promises of the whole, on one page: total, exact and controlled, then what was asked for later; each theorem from the parts in a line or two.
 -- A contract says that a public function answers what a definition gives, for every input; the theorems are about those definitions.
--- Every call of the library is `outcome checks accepted`, every call that tells a number or a text `answer checks accepted refused`, and every
--- lent buffer `afterwards checks new old` (refusals/specs/Answers.antt): Calls.antt beside this page lists them, with the stated orders.
+-- Every call of the library that can be refused is `outcome checks accepted`, every call that tells a number or a text `answer checks accepted
+-- refused`, and every lent buffer `afterwards checks new old` (refusals/specs/Answers.antt): Calls.antt beside this page lists them, with the
+-- stated orders.
 -- docs/CLAIMS.md maps every sentence that was asked for to what keeps it.
 use Prim.Native.Nat.{ℕ, suc, ◌+◌, ◌*◌, ◌-◌, ◌/◌, ◌%◌, ◌^◌, ◌≤◌, ◌<◌}
 use mathlib.Core.Path.{◌≡◌, refl, sym, ap, ◌∙◌}
